@@ -1,0 +1,12 @@
+use mathlib.Core.Path.{sym, ap}
+use Rattle.controller.specs.declared.Controller.{Controller}
+use Rattle.controller.proofs.Controller.speed.Statement.{statement}
+use Rattle.controller.proofs.Controller.speed.Tie as tie
+use Rattle.controller.proofs.Controller.speed.Reads as reads
+use Rattle.controller.proofs.Controller.speed.Lts as lts
+
+returns : tie.Need-returns
+returns c = λ s h e. ap (λ (x : Controller). x .cold .settings .speed) (sym e)
+
+pub speed-spec : {M : Type 1} → statement M
+speed-spec = tie.close (tie.spec returns)

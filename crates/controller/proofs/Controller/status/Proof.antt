@@ -1,0 +1,19 @@
+use borrow.Author.Needs.{needs}
+use mathlib.Core.Path.{sym, ap, _∙_}
+use Rattle.machine.specs.Calls.{state}
+use Rattle.controller.specs.Told.{statusOf}
+use Rattle.controller.proofs.ByteLaws.{status-is}
+use Rattle.controller.proofs.Controller.status.Statement.{statement}
+use Rattle.controller.proofs.Controller.status.Tie as tie
+use Rattle.controller.proofs.Controller.status.Reads as reads
+use Rattle.controller.proofs.Controller.status.Lts as lts
+use Rattle.controller.proofs.told.status.Reads as status-reads
+
+status-requires : tie.Need-status-requires
+status-requires c κs = search needs
+
+returns : tie.Need-returns
+returns c = λ s h e. c .status .ensures ∙ (ap statusOf (sym e) ∙ status-is (state s h))
+
+pub status-spec : {M : Type 1} → statement M
+status-spec = tie.close (tie.spec status-requires returns)

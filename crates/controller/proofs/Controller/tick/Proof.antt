@@ -1,0 +1,83 @@
+use borrow.Author.Needs.{needs}
+use Rattle.machine.specs.Calls.{state}
+use Rattle.machine.proofs.FitLaws.{fits}
+use Rattle.controller.proofs.EntryLaws.{
+  took,
+  take-fits,
+  waited-is,
+  stop-is,
+  stop-fits,
+  run-was,
+  run-wires,
+  tick-is,
+  tick-refused,
+}
+use Rattle.controller.proofs.Controller.tick.Statement.{statement}
+use Rattle.controller.proofs.Controller.tick.Tie as tie
+use Rattle.controller.proofs.Controller.tick.Reads as reads
+use Rattle.controller.proofs.Controller.tick.Lts as lts
+use Rattle.controller.proofs.motion.rest.Reads as rest-reads
+use Rattle.controller.proofs.motion.runs.Reads as runs-reads
+use Rattle.controller.proofs.start.waits.Reads as waits-reads
+use Rattle.controller.proofs.watch.stops.Reads as stops-reads
+use Rattle.controller.proofs.watch.takes.Reads as takes-reads
+
+returns : tie.Need-returns
+returns c =
+    λ s h e. tick-refused (state s h) (c .before .args .word) (fits s h) (c .before .args .self) e (c .if1 .taken)
+
+takes-requires : tie.Need-takes-requires
+takes-requires c κs = search needs
+
+waits-requires : tie.Need-waits-requires
+waits-requires c κs =
+    let q = c .before .before .before .before .before .before in
+    let r = q .pre in
+    let m = state (r .switch) (r .history) in
+    let f = fits (r .switch) (r .history) in
+    take-fits m (q .args .word) f (q .args .self) (r .made) _ (took m (q .args .word) f (q .args .self) (r .made) _ (c .takes .ensures))
+
+stops-requires : tie.Need-stops-requires
+stops-requires c κs = search needs
+
+runs-requires : tie.Need-runs-requires
+runs-requires c κs =
+    let q = c .before .before .before .before .before .before .before .before .before in
+    let r = q .pre in
+    let m = state (r .switch) (r .history) in
+    let f = fits (r .switch) (r .history) in
+    let t = took m (q .args .word) f (q .args .self) (r .made) _ (c .before .before .before .takes .ensures) in
+    let w = waited-is m (q .args .word) f (q .args .self) (r .made) _ _ t (c .before .before .waits .ensures) in
+    stop-fits m (q .args .word) f (q .args .self) (r .made) _ (stop-is m (q .args .word) f (q .args .self) (r .made) _ _ w (c .stops .ensures))
+
+rest-requires : tie.Need-rest-requires
+rest-requires c κs =
+    let q = c .before .before .before .before .before .before .before .before .before .before .before .before in
+    let r = q .pre in
+    let m = state (r .switch) (r .history) in
+    let f = fits (r .switch) (r .history) in
+    let t = took m (q .args .word) f (q .args .self) (r .made) _ (c .before .before .before .before .before .before .takes .ensures) in
+    let w = waited-is m (q .args .word) f (q .args .self) (r .made) _ _ t (c .before .before .before .before .before .waits .ensures) in
+    let p = stop-is m (q .args .word) f (q .args .self) (r .made) _ _ w (c .before .before .before .stops .ensures) in
+    run-wires m (q .args .word) f (q .args .self) (r .made) _ (run-was m (q .args .word) f (q .args .self) (r .made) _ _ p (c .before .before .runs .ensures))
+
+returns-2 : tie.Need-returns-2
+returns-2 c =
+    let q = c .before .before .before .before .before .before .before .before .before .before .before .before .before .before in
+    λ s h e.
+    let t = took (state s h) (q .args .word) (fits s h) (q .args .self) e _ (c .before .before .before .before .before .before .before .before .takes .ensures) in
+    let w = waited-is (state s h) (q .args .word) (fits s h) (q .args .self) e _ _ t (c .before .before .before .before .before .before .before .waits .ensures) in
+    let p = stop-is (state s h) (q .args .word) (fits s h) (q .args .self) e _ _ w (c .before .before .before .before .before .stops .ensures) in
+    tick-is (state s h) (q .args .word) (fits s h) (q .args .self) e _ _ _ (c .before .before .before .before .before .before .before .before .before .before .before .before .before .if1 .left) w (run-was (state s h) (q .args .word) (fits s h) (q .args .self) e _ _ p (c .before .before .before .before .runs .ensures)) (c .before .rest .ensures)
+
+pub tick-spec : {M : Type 1} → statement M
+tick-spec =
+    tie.close
+    (tie.spec
+    returns
+    takes-requires
+    waits-requires
+    stops-requires
+    runs-requires
+    rest-requires
+    returns-2)

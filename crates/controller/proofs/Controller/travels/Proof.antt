@@ -1,0 +1,12 @@
+use mathlib.Core.Path.{sym, ap}
+use Rattle.controller.specs.declared.Controller.{Controller}
+use Rattle.controller.proofs.Controller.travels.Statement.{statement}
+use Rattle.controller.proofs.Controller.travels.Tie as tie
+use Rattle.controller.proofs.Controller.travels.Reads as reads
+use Rattle.controller.proofs.Controller.travels.Lts as lts
+
+returns : tie.Need-returns
+returns c = λ s h e. ap (λ (x : Controller). x .hot .counters .travels) (sym e)
+
+pub travels-spec : {M : Type 1} → statement M
+travels-spec = tie.close (tie.spec returns)

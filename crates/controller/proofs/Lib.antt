@@ -1,0 +1,8 @@
+mod StepLaws
+mod ToldLaws
+pub mod TickLaws
+pub mod StartLaws
+pub mod PulseLaws
+pub mod StageLaws
+pub mod ByteLaws
+pub mod EntryLaws

@@ -1,0 +1,97 @@
+-- Inputs taken, stops begun, words at rest: done to what is held of a machine, they are the machine's own steps, held.
+-- Assumes nothing.
+use Prim.Native.Nat.{ℕ, _<_}
+use mathlib.Core.Bool.{Bool, true, false, cond, not, _&&_, _||_}
+use mathlib.Core.Path.{_≡_, refl, ap, _∙_}
+use native.Mathlib.Omega.{arith}
+use lib.Dec.{ltb, leb}
+use lib.IntN.{ℤ, pos}
+use lib.ListN.{getD}
+use Rattle.laws.specs.Axes.{each}
+use Rattle.laws.proofs.BitLaws.{test-odd}
+use Rattle.laws.proofs.Five.{five}
+use Rattle.laws.proofs.Pick.{by-bool}
+use Rattle.outputs.specs.Outputs.{generalOf}
+use Rattle.outputs.proofs.Words.{word-rest, word-still, small}
+use Rattle.machine.specs.State.{Machine, withMove, withFlags}
+use Rattle.machine.specs.Stops.{takes, stops, stopping, marks, blocked, sensorActive, watchFull, limitOrWatch}
+use Rattle.machine.specs.Outputs.{word}
+use Rattle.controller.specs.declared.hot.Hot.{Hot}
+use Rattle.controller.specs.Held.{heldSettings, heldPlan, heldCounters, heldRun, heldPause, heldFlags, heldHot}
+use Rattle.controller.specs.Inner.{takesOf, limitOf, causeOf, stoppedBy, stopsOf, restBy, WiresFit}
+
+-- What the five axes have, at one of them.
+pub each-at : {A : Type 0} (f : ℕ → A) (x : A) (k : ℕ) → k < 5 → getD (each f) k x ≡ f k
+each-at f x = five (λ (k : ℕ). getD (each f) k x ≡ f k) refl refl refl refl refl
+
+-- ---- Inputs, watch count, emergency, general outputs
+
+-- Outputs that are cleared add nothing to a word.
+general-clear : (s o : ℕ) (t : Bool) → cond t 0 (generalOf s o) ≡ generalOf s (cond t 0 o)
+general-clear s o true = by-bool (λ (x : ℕ). 0 ≡ x) (ltb s 8) _ _ (λ e. refl) (λ e. refl)
+general-clear s o false = refl
+
+pub takes-is : (m : Machine) (w : ℕ) → takesOf (heldSettings (m .settings)) (heldHot m) w ≡ heldHot (takes m w)
+takes-is m w = λ i. record {
+  plan = heldPlan (m .move .plan);
+  counters = heldCounters (m .move) (m .position);
+  run = heldRun (m .move);
+  wires = record {
+    general = general-clear (m .switch) (m .outputs) (watchFull (takes m w) 1) i;
+    cells = heldHot m .wires .cells;
+  };
+  pause = heldPause (m .pause);
+  inputs = w;
+  outputs = takes m w .outputs;
+  watch = takes m w .watch;
+  flags = heldFlags (takes m w .flags);
+}
+
+-- ---- Stops
+
+module _ (m : Machine) where
+  limit-is : limitOf (heldSettings (m .settings)) (heldHot m) ≡ limitOrWatch m
+  limit-is = ap (λ (b : Bool). blocked m (m .move .plan) || leb 1000000 (m .watch) && b) (test-odd (m .settings .watch))
+
+  -- What a stop leaves, by whether a move runs, whether there is a cause, and whether it is a limit or the watch.
+  abbrev stopBy : Bool → Bool → Bool → Hot
+  stopBy moving stop limit =
+      cond (not moving) (heldHot m) (cond (not stop) (heldHot m) (stoppedBy (heldHot m) limit (sensorActive m)))
+
+  pub stops-is : stopsOf (heldSettings (m .settings)) (heldHot m) ≡ heldHot (stops m)
+  stops-is =
+      ap (λ (b : Bool). stopBy (m .move .moving) (causeOf (m .flags .emergency) (sensorActive m) b) b) limit-is
+      ∙ when (m .move .moving) (m .flags .emergency || sensorActive m || limitOrWatch m)
+    where
+      when : (b c : Bool) → stopBy b c (limitOrWatch m)
+          ≡ heldHot (cond (b && c)
+          (withFlags (withMove m (stopping (m .move))) (marks (m .flags) (limitOrWatch m) (sensorActive m))) m)
+      when true true = refl
+      when true false = refl
+      when false c = refl
+
+  -- ---- Words at rest
+
+  -- The word of a second half, whatever the pulses.
+  pub rest-is : (p : ℕ → ℤ) → restBy (heldHot m .wires) ≡ word m p false
+  rest-is p =
+      let h = word-rest (m .switch) (m .settings .polarity) (m .outputs) (m .move .plan .minus) p in
+      omega (arith, h)
+
+  -- The word of a first half without a pulse.
+  pub still-is : restBy (heldHot m .wires) ≡ word m (λ k. pos 0) true
+  still-is =
+      let h = word-still (m .switch) (m .settings .polarity) (m .outputs) (m .move .plan .minus) (λ k. pos 0)
+      (λ k l. refl) in
+      omega (arith, h)
+
+  pub wires-fit : WiresFit (heldHot m .wires)
+  wires-fit =
+      let s = small (m .switch) (m .settings .polarity) (m .outputs) (m .move .plan .minus) in
+      record {
+        general = omega arith;
+        rests = five (λ (k : ℕ). getD (heldHot m .wires .cells .rests) k 0 < 16777216)
+            (omega arith) (omega arith) (omega arith) (omega arith) (omega arith);
+        fires = five (λ (k : ℕ). getD (heldHot m .wires .cells .fires) k 0 < 16777216)
+            (omega arith) (omega arith) (omega arith) (omega arith) (omega arith);
+      }

@@ -1,0 +1,14 @@
+use borrow.Author.Needs.{needs}
+use Rattle.controller.proofs.motion.stands.Statement.{statement}
+use Rattle.controller.proofs.motion.stands.Tie as tie
+use Rattle.controller.proofs.motion.stands.Reads as reads
+use Rattle.controller.proofs.motion.stands.Lts as lts
+
+returns : tie.Need-returns
+returns c = rw (c .before .if1 .taken)
+
+returns-2 : tie.Need-returns-2
+returns-2 c = search needs
+
+pub stands-spec : {M : Type 1} → statement M
+stands-spec = tie.close (tie.spec returns returns-2)

@@ -1,0 +1,14 @@
+use borrow.Author.Needs.{needs}
+use Rattle.controller.proofs.orders.stores.Statement.{statement}
+use Rattle.controller.proofs.orders.stores.Tie as tie
+use Rattle.controller.proofs.orders.stores.Reads as reads
+use Rattle.controller.proofs.orders.stores.Lts as lts
+
+returns : tie.Need-returns
+returns c = rw (c .before .if1 .taken)
+
+returns-2 : tie.Need-returns-2
+returns-2 c = search needs
+
+pub stores-spec : {M : Type 1} → statement M
+stores-spec = tie.close (tie.spec returns returns-2)

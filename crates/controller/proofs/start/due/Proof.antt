@@ -1,0 +1,41 @@
+use borrow.Author.Needs.{needs}
+use Prim.Native.Nat.{ℕ}
+use mathlib.Core.Path.{ap, _∙_}
+use Rattle.laws.proofs.Pick.{on-eq, on-ne}
+use Rattle.controller.specs.Inner.{begunOf, failedOf, dueBy}
+use Rattle.controller.proofs.start.due.Statement.{statement}
+use Rattle.controller.proofs.start.due.Tie as tie
+use Rattle.controller.proofs.start.due.Reads as reads
+use Rattle.controller.proofs.start.due.Lts as lts
+use Rattle.controller.proofs.start.begun.Reads as begun-reads
+use Rattle.controller.proofs.start.failed.Reads as failed-reads
+use Rattle.controller.proofs.start.start_number.Reads as start-number-reads
+
+start-number-requires : tie.Need-start-number-requires
+start-number-requires c κs = search needs
+
+begun-requires : tie.Need-begun-requires
+begun-requires c κs = search needs
+
+returns : tie.Need-returns
+returns c =
+    let q = c .before .before .before .args in
+    let n = c .before .before .start-number in
+    on-eq (n .result) 0 _ _ (record { hot = failedOf (q .hot) (n .result); number = n .result }) (c .before .if1 .taken)
+    (λ i. record { hot = c .begun .ensures i; number = 0 })
+    ∙ ap (λ (x : ℕ). dueBy (q .next) (q .settings .polarity) (q .switch) (q .hot) (q .master) x) (n .ensures)
+
+failed-requires : tie.Need-failed-requires
+failed-requires c κs = search needs
+
+returns-2 : tie.Need-returns-2
+returns-2 c =
+    let q = c .before .before .before .args in
+    let n = c .before .before .start-number in
+    on-ne (n .result) 0 _ (record { hot = begunOf (q .next) (q .settings .polarity) (q .switch) (q .hot) (q .master); number = 0 }) _
+    (c .before .if1 .left) (λ i. record { hot = c .failed .ensures i; number = n .result })
+    ∙ ap (λ (x : ℕ). dueBy (q .next) (q .settings .polarity) (q .switch) (q .hot) (q .master) x) (n .ensures)
+
+pub due-spec : {M : Type 1} → statement M
+due-spec =
+    tie.close (tie.spec start-number-requires begun-requires returns failed-requires returns-2)

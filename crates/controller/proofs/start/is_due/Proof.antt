@@ -1,0 +1,14 @@
+use borrow.Author.Tests.{eq-eqb, ne-eqb}
+use Rattle.controller.proofs.start.is_due.Statement.{statement}
+use Rattle.controller.proofs.start.is_due.Tie as tie
+use Rattle.controller.proofs.start.is_due.Reads as reads
+use Rattle.controller.proofs.start.is_due.Lts as lts
+
+returns : tie.Need-returns
+returns c = rw (eq-eqb _ _ (c .before .if1 .taken))
+
+returns-2 : tie.Need-returns-2
+returns-2 c = rw (ne-eqb _ _ (c .if1 .left))
+
+pub is-due-spec : {M : Type 1} → statement M
+is-due-spec = tie.close (tie.spec returns returns-2)

@@ -1,0 +1,95 @@
+use borrow.Author.Needs.{needs}
+use Prim.Native.Nat.{_+_}
+use mathlib.Core.Bool.{Bool}
+use mathlib.Core.Path.{ap, _∙_}
+use Rattle.laws.specs.Bits.{weight}
+use Rattle.controller.specs.Inner.{blockedIn}
+use Rattle.controller.proofs.told.status.Statement.{statement}
+use Rattle.controller.proofs.told.status.Tie as tie
+use Rattle.controller.proofs.told.status.Reads as reads
+use Rattle.controller.proofs.told.status.Lts as lts
+use Rattle.controller.proofs.hot.either.Reads as either-reads
+use Rattle.controller.proofs.told.bit.Reads as bit-reads
+use Rattle.controller.proofs.told.current.Reads as current-reads
+use Rattle.inputs.proofs.blocked.Reads as blocked-reads
+
+current-requires : tie.Need-current-requires
+current-requires c κs = search needs
+
+blocked-requires : tie.Need-blocked-requires
+blocked-requires c κs = search needs
+
+either-requires : tie.Need-either-requires
+either-requires c κs = search needs
+
+bit-requires : tie.Need-bit-requires
+bit-requires c κs = search needs
+
+bit-requires-2 : tie.Need-bit-requires-2
+bit-requires-2 c κs = search needs
+
+add-result : tie.Need-add-result
+add-result c = search needs
+
+bit-requires-3 : tie.Need-bit-requires-3
+bit-requires-3 c κs = search needs
+
+add-result-2 : tie.Need-add-result-2
+add-result-2 c = search needs
+
+bit-requires-4 : tie.Need-bit-requires-4
+bit-requires-4 c κs = search needs
+
+add-result-3 : tie.Need-add-result-3
+add-result-3 c = search needs
+
+bit-requires-5 : tie.Need-bit-requires-5
+bit-requires-5 c κs = search needs
+
+add-result-4 : tie.Need-add-result-4
+add-result-4 c = search needs
+
+bit-requires-6 : tie.Need-bit-requires-6
+bit-requires-6 c κs = search needs
+
+add-result-5 : tie.Need-add-result-5
+add-result-5 c = search needs
+
+bit-requires-7 : tie.Need-bit-requires-7
+bit-requires-7 c κs = search needs
+
+add-result-6 : tie.Need-add-result-6
+add-result-6 c = search needs
+
+returns : tie.Need-returns
+returns c =
+    let h = c .before .before .before .before .before .before .before .before .before .before .before .before .before .before .before .before .before .before .before .args .c in
+    λ i. (c .before .before .before .before .before .before .bit .ensures .0 ∙ ap (λ (b : Bool). weight b 1) (c .before .before .before .before .before .before .before .either .ensures)) i
+    + c .before .before .before .before .before .bit2 .ensures .0 i
+    + c .before .before .before .before .bit3 .ensures .0 i
+    + c .before .before .before .bit4 .ensures .0 i
+    + (c .before .before .bit5 .ensures .0 ∙ ap (λ (b : Bool). weight b 16) (c .before .before .before .before .before .before .before .before .before .blocked .ensures ∙ ap (blockedIn (h .cold .settings) (h .hot .inputs)) (c .before .before .before .before .before .before .before .before .before .before .before .before .current .ensures))) i
+    + c .before .bit6 .ensures .0 i
+    + c .bit7 .ensures .0 i
+
+pub status-spec : {M : Type 1} → statement M
+status-spec =
+    tie.close
+    (tie.spec
+    current-requires
+    blocked-requires
+    either-requires
+    bit-requires
+    bit-requires-2
+    add-result
+    bit-requires-3
+    add-result-2
+    bit-requires-4
+    add-result-3
+    bit-requires-5
+    add-result-4
+    bit-requires-6
+    add-result-5
+    bit-requires-7
+    add-result-6
+    returns)

@@ -1,0 +1,132 @@
+-- How the controller holds the values of the machine: the one definition that says so. Positions are held with 524,288
+-- added; beside each travel stands the remainder of m × d / M; M, m and the parts of the output words are kept ready.
+use Prim.Native.Nat.{ℕ, _+_, _*_, _%_}
+use mathlib.Core.List.{List}
+use lib.IntN.{ℤ}
+use lib.ListN.{length}
+use Rattle.laws.specs.Axes.{each}
+use Rattle.outputs.specs.Outputs.{generalOf, restOf, fireOf}
+use Rattle.receiver.specs.Receiver.{holding}
+use Rattle.reply.specs.declared.Travel.{Travel}
+use Rattle.reply.specs.declared.Position.{Position}
+use Rattle.reply.specs.Reply.{bias}
+use Rattle.machine.specs.State as M
+use Rattle.machine.specs.State.{Machine, none, start}
+use Rattle.machine.specs.Shares.{whole, gone}
+use Rattle.machine.specs.Replies.{travelOf, positionOf}
+use Rattle.machine.specs.Steps as steps
+use Rattle.machine.specs.Steps.{powerOn, powerNumber}
+use Rattle.controller.specs.declared.Controller.{Controller}
+use Rattle.controller.specs.declared.Cold.{Cold}
+use Rattle.controller.specs.declared.PowerOn.{PowerOn}
+use Rattle.controller.specs.declared.ByteAnswer.{ByteAnswer}
+use Rattle.controller.specs.declared.TickAnswer.{TickAnswer}
+use Rattle.controller.specs.declared.hot.Hot.{Hot}
+use Rattle.controller.specs.declared.hot.Settings.{Settings}
+use Rattle.controller.specs.declared.hot.Plan.{Plan}
+use Rattle.controller.specs.declared.hot.Run.{Run}
+use Rattle.controller.specs.declared.hot.Counters.{Counters}
+use Rattle.controller.specs.declared.hot.Pause.{Pause}
+use Rattle.controller.specs.declared.hot.Flags.{Flags}
+use Rattle.controller.specs.declared.hot.Wires.{Wires}
+
+abbrev pub heldSettings : M.Settings → Settings
+heldSettings s = record {
+  speed = s .speed;
+  slope = s .slope;
+  dwell = s .dwell;
+  polarity = s .polarity;
+  low = s .lowOn;
+  high = s .highOn;
+  watch = s .watch;
+}
+
+abbrev pub heldPlan : M.Plan → Plan
+heldPlan p = record { distances = each (p .distance); minus = each (p .minus) }
+
+-- M and m stand beside the speed and the phase.
+abbrev pub heldRun : M.Move → Run
+heldRun v = record {
+  length = whole v;
+  gone = gone v;
+  speed = v .speed;
+  phase = v .phase;
+  master = v .master;
+  moving = v .moving;
+  stopping = v .stopping;
+}
+
+-- The remainder is what m × d leaves when divided by M.
+abbrev pub heldCounters : M.Move → (ℕ → ℤ) → Counters
+heldCounters v p = record {
+  travels = each (λ k. record { 0 = v .travel k });
+  remainders = each (λ k. gone v * v .plan .distance k % whole v);
+  positions = each (λ k. record { 0 = bias (p k) });
+}
+
+abbrev pub heldWaiting : M.Waiting → ℕ
+heldWaiting none = 0
+heldWaiting (start k) = k + 1
+
+abbrev pub heldPause : M.Pause → Pause
+heldPause p = record { left = p .left; waiting = heldWaiting (p .waiting) }
+
+abbrev pub heldFlags : M.Flags → Flags
+heldFlags f = record { wrong = f .wrongMaster; stopped = f .stopped; emergency = f .emergency; sensed = f .sensed }
+
+-- What the general outputs and each axis add to an output word.
+abbrev pub heldWires : ℕ → ℕ → ℕ → M.Plan → Wires
+heldWires switch polarity outputs p = record {
+  general = generalOf switch outputs;
+  cells = record {
+    rests = each (restOf switch polarity (p .minus));
+    fires = each (fireOf switch polarity (p .minus));
+  };
+}
+
+abbrev pub heldHot : Machine → Hot
+heldHot m = record {
+  plan = heldPlan (m .move .plan);
+  counters = heldCounters (m .move) (m .position);
+  run = heldRun (m .move);
+  wires = heldWires (m .switch) (m .settings .polarity) (m .outputs) (m .move .plan);
+  pause = heldPause (m .pause);
+  inputs = m .inputs;
+  outputs = m .outputs;
+  watch = m .watch;
+  flags = heldFlags (m .flags);
+}
+
+abbrev pub heldCold : Machine → Cold
+heldCold m = record {
+  settings = heldSettings (m .settings);
+  next = heldPlan (m .next);
+  line = holding (m .line);
+  switch = m .switch;
+}
+
+abbrev pub held : Machine → Controller
+held m = record { hot = heldHot m; cold = heldCold m }
+
+-- ---- The answers
+
+abbrev pub heldPower : ℕ → PowerOn
+heldPower s = record { controller = held (powerOn s); number = powerNumber s }
+
+abbrev pub heldTravel : Machine → ℕ → Travel
+heldTravel m k = record { 0 = travelOf m k }
+
+abbrev pub heldPosition : Machine → ℕ → Position
+heldPosition m k = record { 0 = bias (positionOf m k) }
+
+abbrev pub heldByte : steps.ByteAnswer → ByteAnswer
+heldByte a = record { controller = held (a .machine); length = length (a .reply); number = a .number }
+
+abbrev pub heldTick : steps.TickAnswer → TickAnswer
+heldTick a = record {
+  controller = held (a .machine);
+  pulses = each (a .pulse);
+  first = a .first;
+  second = a .second;
+  number = a .number;
+}

@@ -1,0 +1,423 @@
+-- What the private functions do, on the values as they are held: a means of proof, not what a reader must believe.
+use Prim.Native.Nat.{ℕ, _+_, _-_, _*_, _/_, _%_, _≤_, _<_, min}
+use mathlib.Core.Bool.{Bool, true, false, cond, not, _&&_, _||_}
+use mathlib.Core.List.{List, [], _∷_}
+use mathlib.Core.Path.{_≡_}
+use lib.Dec.{ltb, leb, eqb}
+use lib.IntN.{ℤ, pos}
+use lib.ListN.{getD}
+use Rattle.laws.specs.Axes.{each, some, directed}
+use Rattle.inputs.specs.Inputs.{someBlocked, activeAt}
+use Rattle.outputs.specs.declared.Cells.{Cells}
+use Rattle.outputs.specs.Outputs.{restOf, fireOf}
+use Rattle.machine.specs.Ramp as ramp
+use Rattle.machine.specs.Outputs.{word}
+use Rattle.machine.specs.Ramp.{full, braked, towards}
+use Rattle.reply.specs.declared.Travel.{Travel}
+use Rattle.reply.specs.declared.Position.{Position}
+use Rattle.controller.specs.declared.hot.Hot.{Hot}
+use Rattle.controller.specs.declared.hot.Settings.{Settings}
+use Rattle.controller.specs.declared.hot.Plan.{Plan}
+use Rattle.controller.specs.declared.hot.Run.{Run}
+use Rattle.controller.specs.declared.hot.Counters.{Counters}
+use Rattle.controller.specs.declared.hot.Pause.{Pause}
+use Rattle.controller.specs.declared.hot.Flags.{Flags}
+use Rattle.controller.specs.declared.hot.Wires.{Wires}
+use Rattle.controller.specs.declared.motion.Share.{Share}
+use Rattle.controller.specs.declared.motion.Axis.{Axis}
+use Rattle.controller.specs.declared.motion.Ran.{Ran}
+use Rattle.controller.specs.declared.start.Waited.{Waited}
+use Rattle.controller.specs.Held.{heldHot}
+
+-- ---- Hot with one part replaced
+
+abbrev pub withRun : Hot → Run → Hot
+withRun h x = record {
+  plan = h .plan;
+  counters = h .counters;
+  run = x;
+  wires = h .wires;
+  pause = h .pause;
+  inputs = h .inputs;
+  outputs = h .outputs;
+  watch = h .watch;
+  flags = h .flags;
+}
+
+abbrev pub withPause : Hot → Pause → Hot
+withPause h x = record {
+  plan = h .plan;
+  counters = h .counters;
+  run = h .run;
+  wires = h .wires;
+  pause = x;
+  inputs = h .inputs;
+  outputs = h .outputs;
+  watch = h .watch;
+  flags = h .flags;
+}
+
+abbrev pub withFlags : Hot → Flags → Hot
+withFlags h x = record {
+  plan = h .plan;
+  counters = h .counters;
+  run = h .run;
+  wires = h .wires;
+  pause = h .pause;
+  inputs = h .inputs;
+  outputs = h .outputs;
+  watch = h .watch;
+  flags = x;
+}
+
+-- ---- Ramp
+
+abbrev pub rampOf : Settings → Run → ℕ
+rampOf s r =
+    cond (r .stopping) (r .speed - s .slope)
+    (cond (leb (2 * s .slope * ((r .length - r .gone) * full - r .phase)) (r .speed * r .speed))
+    (braked (r .speed) (s .slope))
+    (towards (r .speed) (50 * s .speed) (s .slope)))
+
+-- What keeps its products in 64 bits.
+pub record RampFits (s : Settings) (r : Run) : Type 0 where
+  pub now : r .speed ≤ full
+  pub speed : s .speed ≤ 1000000
+  pub slope : s .slope ≤ 4095
+  pub length : r .length ≤ 524287
+  pub gone : r .gone < r .length
+  pub phase : r .phase < full
+
+-- ---- Shares
+
+abbrev pub shareOf : ℕ → ℕ → ℕ → Share
+shareOf remainder distance length =
+    record { remainder = (remainder + distance) % length; on = leb length (remainder + distance) }
+
+abbrev pub pulseOf : Bool → Bool → ℤ
+pulseOf on minus = cond on (directed minus 1) (pos 0)
+
+abbrev pub movedOf : Position → Bool → Position
+movedOf p minus = cond minus (record { 0 = p .0 - 1 }) (record { 0 = p .0 + 1 })
+
+abbrev pub travelAt : Counters → ℕ → Travel
+travelAt c k = getD (c .travels) k (record { 0 = 0 })
+
+abbrev pub positionAt : Counters → ℕ → Position
+positionAt c k = getD (c .positions) k (record { 0 = 0 })
+
+abbrev pub axisBy : Share → Travel → Position → Bool → Axis
+axisBy s t p minus =
+    cond (s .on)
+    (record { travel = record { 0 = t .0 + 1 }; position = movedOf p minus; remainder = s .remainder; on = true })
+    (record { travel = t; position = p; remainder = s .remainder; on = false })
+
+abbrev pub axisOf : Plan → Counters → ℕ → ℕ → Axis
+axisOf p c length k =
+    axisBy (shareOf (getD (c .remainders) k 0) (getD (p .distances) k 0) length) (travelAt c k) (positionAt c k)
+    (getD (p .minus) k false)
+
+-- What keeps one axis's counts in range.
+pub record AxisFits (p : Plan) (c : Counters) (length k : ℕ) : Type 0 where
+  pub index : k < 5
+  pub small : getD (c .remainders) k 0 < length
+  pub short : getD (p .distances) k 0 ≤ length
+  pub bound : length ≤ 524287
+  pub grows : length ≤ getD (c .remainders) k 0 + getD (p .distances) k 0 → travelAt c k .0 < getD (p .distances) k 0
+  pub low : getD (p .minus) k false ≡ true → getD (p .distances) k 0 ≤ travelAt c k .0 + positionAt c k .0
+  pub high : getD (p .minus) k false ≡ false → positionAt c k .0 + getD (p .distances) k 0 ≤ 1048575 + travelAt c k .0
+
+-- ---- Output words by their parts
+
+abbrev pub levelOf : Wires → ℕ → Bool → ℕ
+levelOf w k on = cond on (getD (w .cells .fires) k 0) (getD (w .cells .rests) k 0)
+
+abbrev pub wordBy : Wires → Bool → Bool → Bool → Bool → Bool → ℕ
+wordBy w a b c d e =
+    w .general + levelOf w 0 a + levelOf w 1 b + levelOf w 2 c + levelOf w 3 d + levelOf w 4 e
+
+abbrev pub restBy : Wires → ℕ
+restBy w = wordBy w false false false false false
+
+pub record WiresFit (w : Wires) : Type 0 where
+  pub general : w .general < 16777216
+  pub rests : (k : ℕ) → k < 5 → getD (w .cells .rests) k 0 < 16777216
+  pub fires : (k : ℕ) → k < 5 → getD (w .cells .fires) k 0 < 16777216
+
+-- ---- A tick of a move
+
+abbrev pub atRest : Run → Run
+atRest r = record {
+  length = r .length;
+  gone = r .gone;
+  speed = 0;
+  phase = 0;
+  master = r .master;
+  moving = false;
+  stopping = false;
+}
+
+-- The move has ended: the dwell begins.
+abbrev pub endedOf : Hot → ℕ → Hot
+endedOf h dwell =
+    withPause (withRun h (atRest (h .run))) (record { left = 250 * dwell; waiting = h .pause .waiting })
+
+abbrev pub quietOf : Hot → Ran
+quietOf h = record { hot = h; pulses = each (λ k. pos 0); first = restBy (h .wires) }
+
+-- Hot after a master pulse.
+abbrev pub steppedOf : Hot → ℕ → ℕ → Axis → Axis → Axis → Axis → Axis → Hot
+steppedOf h speed phase a b c d e = record {
+  plan = h .plan;
+  counters = record {
+    travels = a .travel ∷ b .travel ∷ c .travel ∷ d .travel ∷ e .travel ∷ [];
+    remainders = a .remainder ∷ b .remainder ∷ c .remainder ∷ d .remainder ∷ e .remainder ∷ [];
+    positions = a .position ∷ b .position ∷ c .position ∷ d .position ∷ e .position ∷ [];
+  };
+  run = record {
+    length = h .run .length;
+    gone = h .run .gone + 1;
+    speed = speed;
+    phase = phase;
+    master = h .run .master;
+    moving = h .run .moving;
+    stopping = h .run .stopping;
+  };
+  wires = h .wires;
+  pause = h .pause;
+  inputs = h .inputs;
+  outputs = h .outputs;
+  watch = h .watch;
+  flags = h .flags;
+}
+
+abbrev pub pulsedBy : Hot → ℕ → ℕ → ℕ → Axis → Axis → Axis → Axis → Axis → Ran
+pulsedBy h dwell speed phase a b c d e = record {
+  hot = cond (eqb (h .run .gone + 1) (h .run .length)) (endedOf (steppedOf h speed phase a b c d e) dwell)
+      (steppedOf h speed phase a b c d e);
+  pulses =
+      pulseOf (a .on) (getD (h .plan .minus) 0 false) ∷ pulseOf (b .on) (getD (h .plan .minus) 1 false)
+      ∷ pulseOf (c .on) (getD (h .plan .minus) 2 false) ∷ pulseOf (d .on) (getD (h .plan .minus) 3 false)
+      ∷ pulseOf (e .on) (getD (h .plan .minus) 4 false) ∷ [];
+  first = wordBy (h .wires) (a .on) (b .on) (c .on) (d .on) (e .on);
+}
+
+abbrev pub axisIn : Hot → ℕ → Axis
+axisIn h k = axisOf (h .plan) (h .counters) (h .run .length) k
+
+abbrev pub pulsedOf : Hot → ℕ → ℕ → ℕ → Ran
+pulsedOf h dwell speed phase =
+    pulsedBy h dwell speed phase (axisIn h 0) (axisIn h 1) (axisIn h 2) (axisIn h 3) (axisIn h 4)
+
+abbrev pub spedOf : Run → ℕ → ℕ → Run
+spedOf r speed phase = record {
+  length = r .length;
+  gone = r .gone;
+  speed = speed;
+  phase = phase;
+  master = r .master;
+  moving = r .moving;
+  stopping = r .stopping;
+}
+
+abbrev pub advancedOf : Hot → ℕ → ℕ → Ran
+advancedOf h dwell speed =
+    cond (ltb (h .run .phase + speed) full)
+    (quietOf (withRun h (spedOf (h .run) speed (h .run .phase + speed))))
+    (pulsedOf h dwell speed (h .run .phase + speed - full))
+
+-- A stop has come down to the slope.
+abbrev pub standsOf : Run → ℕ → Bool
+standsOf r slope = r .stopping && leb (r .speed) slope
+
+abbrev pub runsOf : Settings → Hot → Ran
+runsOf s h =
+    cond (not (h .run .moving)) (quietOf h)
+    (cond (standsOf (h .run) (s .slope)) (quietOf (endedOf h (s .dwell)))
+    (advancedOf h (s .dwell) (rampOf s (h .run))))
+
+-- What a tick's ramp leaves of a machine, as it is held, with the pulses and the first word.
+abbrev pub heldRan : ramp.Ran → Ran
+heldRan r = record { hot = heldHot (r .machine); first = word (r .machine) (r .pulse) true; pulses = each (r .pulse) }
+
+-- What a master pulse needs.
+pub record PulseFits (h : Hot) (ms : ℕ) : Type 0 where
+  pub wires : WiresFit (h .wires)
+  pub dwell : ms ≤ 16383
+  pub gone : h .run .gone < 524287
+  pub axes : (k : ℕ) → k < 5 → AxisFits (h .plan) (h .counters) (h .run .length) k
+
+-- What a tick of a move needs.
+pub record RunFits (s : Settings) (h : Hot) : Type 0 where
+  pub wires : WiresFit (h .wires)
+  pub dwell : s .dwell ≤ 16383
+  pub ramp : h .run .moving ≡ true → RampFits s (h .run)
+  pub pulse : h .run .moving ≡ true → PulseFits h (s .dwell)
+
+-- ---- Starts
+
+abbrev pub longerOf : List ℕ → ℕ → Bool
+longerOf distances length = some (λ k. ltb length (getD distances k 0))
+
+abbrev pub leavesOf : Position → Bool → ℕ → Bool
+leavesOf p minus distance = cond minus (ltb (p .0) distance) (ltb 1048575 (p .0 + distance))
+
+abbrev pub leavesAt : Plan → Counters → ℕ → Bool
+leavesAt next c k = leavesOf (positionAt c k) (getD (next .minus) k false) (getD (next .distances) k 0)
+
+abbrev pub someLeave : Plan → Counters → Bool
+someLeave next c = some (leavesAt next c)
+
+abbrev pub blockedIn : Settings → ℕ → Plan → Bool
+blockedIn s inputs p =
+    someBlocked (s .low) (s .high) inputs (λ k. getD (p .distances) k 0) (λ k. getD (p .minus) k false)
+
+abbrev pub startOf : Settings → Plan → Hot → ℕ → ℕ
+startOf s next h master =
+    cond (h .flags .emergency) 12
+    (cond (activeAt (s .low) (s .high) (h .inputs) 13) 13
+    (cond (longerOf (next .distances) (getD (next .distances) master 0)) 14
+    (cond (eqb (getD (next .distances) master 0) 0) 15
+    (cond (blockedIn s (h .inputs) next) 16
+    (cond (someLeave next (h .counters)) 17
+    0)))))
+
+pub record StartFits (next : Plan) (c : Counters) : Type 0 where
+  pub distance : (k : ℕ) → k < 5 → getD (next .distances) k 0 ≤ 524287
+  pub position : (k : ℕ) → k < 5 → positionAt c k .0 ≤ 1048575
+
+abbrev pub begunWith : Plan → Hot → ℕ → Cells → Hot
+begunWith next h master cells = record {
+  plan = next;
+  counters = record {
+    travels = each (λ k. record { 0 = 0 });
+    remainders = each (λ k. 0);
+    positions = h .counters .positions;
+  };
+  run = record {
+    length = getD (next .distances) master 0;
+    gone = 0;
+    speed = 0;
+    phase = 0;
+    master = master;
+    moving = true;
+    stopping = false;
+  };
+  wires = record { general = h .wires .general; cells = cells };
+  pause = record { left = 0; waiting = 0 };
+  inputs = h .inputs;
+  outputs = h .outputs;
+  watch = h .watch;
+  flags = record { wrong = h .flags .wrong; stopped = false; emergency = h .flags .emergency; sensed = false };
+}
+
+abbrev pub cellsOf : ℕ → ℕ → List Bool → Cells
+cellsOf switch polarity minus = record {
+  rests = each (restOf switch polarity (λ k. getD minus k false));
+  fires = each (fireOf switch polarity (λ k. getD minus k false));
+}
+
+abbrev pub begunOf : Plan → ℕ → ℕ → Hot → ℕ → Hot
+begunOf next polarity switch h master = begunWith next h master (cellsOf switch polarity (next .minus))
+
+-- ---- The dwell
+
+abbrev pub failedBy : Hot → Bool → Hot
+failedBy h wrong =
+    withPause (withFlags h (record {
+      wrong = wrong;
+      stopped = h .flags .stopped;
+      emergency = h .flags .emergency;
+      sensed = h .flags .sensed;
+    }))
+    (record { left = 0; waiting = 0 })
+
+abbrev pub failedOf : Hot → ℕ → Hot
+failedOf h n = failedBy h (h .flags .wrong || eqb n 14)
+
+abbrev pub dueBy : Plan → ℕ → ℕ → Hot → ℕ → ℕ → Waited
+dueBy next polarity switch h master n =
+    cond (eqb n 0) (record { hot = begunOf next polarity switch h master; number = 0 })
+    (record { hot = failedOf h n; number = n })
+
+abbrev pub dueOf : Settings → Plan → ℕ → Hot → ℕ → Waited
+dueOf s next switch h master = dueBy next (s .polarity) switch h master (startOf s next h master)
+
+abbrev pub countedOf : Hot → Hot
+countedOf h = withPause h (record { left = h .pause .left - 1; waiting = h .pause .waiting })
+
+abbrev pub isDue : Pause → Bool
+isDue p = eqb (p .left) 1 && ltb 0 (p .waiting)
+
+abbrev pub waitsOf : Settings → Plan → ℕ → Hot → Waited
+waitsOf s next switch h =
+    cond (isDue (h .pause)) (dueOf s next switch h (h .pause .waiting - 1))
+    (record { hot = countedOf h; number = 0 })
+
+pub record WaitFits (next : Plan) (h : Hot) : Type 0 where
+  pub waiting : h .pause .waiting ≤ 5
+  pub start : StartFits next (h .counters)
+
+-- ---- Inputs, watch, stops
+
+abbrev pub raisedOf : ℕ → ℕ
+raisedOf watch = min 1000000 (watch + 1)
+
+abbrev pub isFull : ℕ → ℕ → Bool
+isFull watch setting = leb 1000000 watch && eqb (setting % 2) 1
+
+abbrev pub takesBy : Hot → ℕ → ℕ → Bool → Bool → Hot
+takesBy h word watch emergency clears = record {
+  plan = h .plan;
+  counters = h .counters;
+  run = h .run;
+  wires = record { general = cond clears 0 (h .wires .general); cells = h .wires .cells };
+  pause = h .pause;
+  inputs = word;
+  outputs = cond clears 0 (h .outputs);
+  watch = watch;
+  flags = record {
+    wrong = h .flags .wrong;
+    stopped = h .flags .stopped;
+    emergency = emergency;
+    sensed = h .flags .sensed;
+  };
+}
+
+abbrev pub takesOf : Settings → Hot → ℕ → Hot
+takesOf s h word =
+    takesBy h word (raisedOf (h .watch)) (h .flags .emergency || activeAt (s .low) (s .high) word 12)
+    (isFull (raisedOf (h .watch)) (s .watch / 2))
+
+abbrev pub limitOf : Settings → Hot → Bool
+limitOf s h = blockedIn s (h .inputs) (h .plan) || isFull (h .watch) (s .watch)
+
+abbrev pub causeOf : Bool → Bool → Bool → Bool
+causeOf emergency sensor limit = emergency || sensor || limit
+
+abbrev pub stoppedWith : Hot → Bool → Bool → Hot
+stoppedWith h stopped sensed =
+    withFlags (withRun h (record {
+      length = h .run .length;
+      gone = h .run .gone;
+      speed = h .run .speed;
+      phase = h .run .phase;
+      master = h .run .master;
+      moving = h .run .moving;
+      stopping = true;
+    }))
+    (record {
+      wrong = h .flags .wrong;
+      stopped = stopped;
+      emergency = h .flags .emergency;
+      sensed = sensed;
+    })
+
+abbrev pub stoppedBy : Hot → Bool → Bool → Hot
+stoppedBy h limit sensor = stoppedWith h (h .flags .stopped || limit) (h .flags .sensed || sensor)
+
+abbrev pub stopsOf : Settings → Hot → Hot
+stopsOf s h =
+    cond (not (h .run .moving)) h
+    (cond (not (causeOf (h .flags .emergency) (activeAt (s .low) (s .high) (h .inputs) 13) (limitOf s h))) h
+    (stoppedBy h (limitOf s h) (activeAt (s .low) (s .high) (h .inputs) 13)))

@@ -1,0 +1,6 @@
+pub mod Held
+pub mod Reach
+pub mod Inner
+pub mod Orders
+pub mod Told
+pub mod Power

@@ -1,0 +1,298 @@
+// The blending controller (paper 01): power-on, a received byte with its lent reply buffer, a tick with its input word.
+// Its fields are private, so that only power-on and calls can make one. Each entry's answer is the machine's of the crate
+// `machine`, held as specs/Held.antt says; the only premise is that the controller is reachable. Assumes nothing.
+ghost use mathlib.Core.Path.{_≡_};
+ghost use Rattle.laws.specs.Axes.{each};
+ghost use Rattle.machine.specs.Demand.{Demand3};
+ghost use Rattle.machine.specs.Marked.{Marked};
+ghost use Rattle.machine.specs.Witness.{Witness};
+ghost use Rattle.machine.specs.Steps.{byteStep, tickStep, bufferAfter};
+ghost use Rattle.machine.specs.Stops.{status};
+ghost use Rattle.controller.specs.Held.{heldPower, heldTravel, heldPosition, heldByte, heldTick};
+ghost use Rattle.controller.specs.Reach.{Reachable, Made};
+ghost use Rattle.controller.specs.Power.{badOf, freshOf, lineWith};
+use crate::hot::Counters;
+use crate::hot::Flags;
+use crate::hot::Hot;
+use crate::hot::Pause;
+use crate::hot::Plan;
+use crate::hot::Run;
+use crate::hot::Settings;
+use crate::hot::Wires;
+use receiver::Heard;
+use receiver::Receiver;
+use reply::Position;
+use reply::Travel;
+
+pub mod hot;
+pub mod motion;
+pub mod orders;
+pub mod start;
+pub mod told;
+pub mod watch;
+
+// What only bytes alter.
+pub struct Cold {
+    pub settings: Settings,
+    pub next: Plan,
+    pub line: Receiver,
+    pub switch: u8,
+}
+
+pub struct Controller {
+    hot: Hot,
+    cold: Cold,
+}
+
+// A controller as power-on leaves it, and 1 for a switch that there is none of, else 0.
+pub struct PowerOn {
+    pub controller: Controller,
+    pub number: u8,
+}
+
+// What a byte answers: the next controller, the length of the reply in the lent buffer, and the number that turned the byte
+// or its line away, told of silent lines too; 0 where nothing was.
+pub struct ByteAnswer {
+    pub controller: Controller,
+    pub length: usize,
+    pub number: u8,
+}
+
+// What a tick answers: the next controller, the five pulses (-1, 0, 1), the output words of its two halves, and the number
+// of a waiting start that failed, or 3, or 0.
+pub struct TickAnswer {
+    pub controller: Controller,
+    pub first: u32,
+    pub second: u32,
+    pub pulses: [i8; 5],
+    pub number: u8,
+}
+
+fn is_bad(switch: u8) -> bool
+    ensures { λ r. ⌜ r ≡ badOf switch ⌝ }
+{
+    if 15 < switch {
+        return true;
+    }
+    switch == 12
+}
+
+// V 10,000, a 16, all else 0, watch off.
+fn fresh(switch: u8) -> Controller
+    ensures { λ r. ⌜ r ≡ freshOf switch ⌝ }
+{
+    let settings = Settings {
+        speed: 10000,
+        slope: 16,
+        dwell: 0,
+        polarity: 0,
+        low: 0,
+        high: 0,
+        watch: 0,
+    };
+    let minus = [false; 5];
+    let plan = Plan {
+        distances: [0; 5],
+        minus,
+    };
+    let counters = Counters {
+        travels: [Travel(0); 5],
+        remainders: [0; 5],
+        positions: [Position(524288); 5],
+    };
+    let run = Run {
+        length: 0,
+        gone: 0,
+        speed: 0,
+        phase: 0,
+        master: 0,
+        moving: false,
+        stopping: false,
+    };
+    let general = outputs::general(switch, 0);
+    let cells = outputs::axis_cells(switch, 0, minus);
+    let wires = Wires { general, cells };
+    let pause = Pause {
+        left: 0,
+        waiting: 0,
+    };
+    let flags = Flags {
+        wrong: false,
+        stopped: false,
+        emergency: false,
+        sensed: false,
+    };
+    let hot = Hot {
+        plan,
+        counters,
+        run,
+        wires,
+        pause,
+        inputs: 0,
+        outputs: 0,
+        watch: 0,
+        flags,
+    };
+    let line = Receiver::new();
+    let cold = Cold {
+        settings,
+        next: plan,
+        line,
+        switch,
+    };
+    Controller { hot, cold }
+}
+
+// Power-on. The theorem about every list of calls, the marked table and a computed list stand here as promises, so that the
+// gate keeps them: they speak of the machine whose held values every entry answers.
+pub fn power_on(switch: u8) -> PowerOn
+    ensures { λ r. ⌜ r ≡ heldPower switch ⌝ }
+    ensures { λ _. ⌜ Demand3 ⌝ }
+    ensures { λ _. ⌜ Marked ⌝ }
+    ensures { λ _. ⌜ Witness ⌝ }
+{
+    if is_bad(switch) {
+        let controller = fresh(0);
+        return PowerOn {
+            controller,
+            number: 1,
+        };
+    }
+    let controller = fresh(switch);
+    PowerOn {
+        controller,
+        number: 0,
+    }
+}
+
+// The controller with the characters received so far.
+fn with_line(c: Controller, line: Receiver) -> Controller
+    ensures { λ r. ⌜ r ≡ lineWith c line ⌝ }
+{
+    let hot = c.hot;
+    let mut cold = c.cold;
+    cold.line = line;
+    Controller { hot, cold }
+}
+
+impl Controller {
+    // A received byte, with the buffer lent for a reply.
+    pub fn byte(self, buf: &mut [u8], b: u8) -> ByteAnswer
+        requires { ⌜ Reachable self ⌝ }
+        ensures { λ r. ⌜ Made self (λ m. r ≡ heldByte (byteStep m b (now (buf .entry)))) ⌝ }
+        ensures { λ r. ⌜ Made self (λ m. now (buf .exit) ≡ bufferAfter (byteStep m b (now (buf .entry))) (now (buf .entry))) ⌝ }
+    {
+        if buf.len() < 120 {
+            return ByteAnswer {
+                controller: self,
+                length: 0,
+                number: 2,
+            };
+        }
+        let cold = self.cold;
+        let line = cold.line;
+        let taken = line.take(b);
+        let next = taken.next;
+        let heard = taken.heard;
+        let controller = with_line(self, next);
+        match heard {
+            Heard::Character => ByteAnswer {
+                controller,
+                length: 0,
+                number: 0,
+            },
+            Heard::Line {
+                silent,
+                ident,
+                judged,
+            } => told::lined(controller, buf, silent, ident, judged),
+        }
+    }
+
+    // A tick, with its input word.
+    pub fn tick(self, word: u32) -> TickAnswer
+        requires { ⌜ Reachable self ⌝ }
+        ensures { λ r. ⌜ Made self (λ m. r ≡ heldTick (tickStep m word)) ⌝ }
+    {
+        if 16777215 < word {
+            return TickAnswer {
+                controller: self,
+                first: 0,
+                second: 0,
+                pulses: [0; 5],
+                number: 3,
+            };
+        }
+        let cold = self.cold;
+        let settings = cold.settings;
+        let next = cold.next;
+        let was = self.hot;
+        let taken = watch::takes(settings, was, word);
+        let waited = start::waits(settings, next, cold.switch, taken);
+        let looked = waited.hot;
+        let stopped = watch::stops(settings, looked);
+        let ran = motion::runs(settings, stopped);
+        let hot = ran.hot;
+        let wires = hot.wires;
+        let second = motion::rest(wires);
+        let pulses = ran.pulses;
+        let controller = Controller { hot, cold };
+        TickAnswer {
+            controller,
+            first: ran.first,
+            second,
+            pulses,
+            number: waited.number,
+        }
+    }
+
+    // The pulses that each axis has sent in the latest move.
+    pub fn travels(self) -> [Travel; 5]
+        requires { ⌜ Reachable self ⌝ }
+        ensures { λ r. ⌜ Made self (λ m. r ≡ each (heldTravel m)) ⌝ }
+    {
+        let hot = self.hot;
+        let counters = hot.counters;
+        let travels = counters.travels;
+        travels
+    }
+
+    // The signed pulses of each axis since power-on or the last position reset.
+    pub fn positions(self) -> [Position; 5]
+        requires { ⌜ Reachable self ⌝ }
+        ensures { λ r. ⌜ Made self (λ m. r ≡ each (heldPosition m)) ⌝ }
+    {
+        let hot = self.hot;
+        let counters = hot.counters;
+        let positions = counters.positions;
+        positions
+    }
+
+    // The status word.
+    pub fn status(self) -> u8
+        requires { ⌜ Reachable self ⌝ }
+        ensures { λ r. ⌜ Made self (λ m. r ≡ status m) ⌝ }
+    {
+        told::status(self)
+    }
+
+    // The speed setting in units of 0.25 Hz.
+    pub fn speed(self) -> u32
+        requires { ⌜ Reachable self ⌝ }
+        ensures { λ r. ⌜ Made self (λ m. r ≡ m .settings .speed) ⌝ }
+    {
+        let cold = self.cold;
+        let settings = cold.settings;
+        settings.speed
+    }
+
+    // The slope setting in units of 1.25 kHz/s.
+    pub fn slope(self) -> u32
+        requires { ⌜ Reachable self ⌝ }
+        ensures { λ r. ⌜ Made self (λ m. r ≡ m .settings .slope) ⌝ }
+    {
+        let cold = self.cold;
+        let settings = cold.settings;
+        settings.slope
+    }
+}

@@ -1,0 +1,254 @@
+// A start: what turns it away, what it begins, and the dwell that it may wait for (paper 01, "Turned away" 12 to 17).
+ghost use mathlib.Core.Path.{_≡_};
+ghost use Prim.Native.Nat.{_≤_, _<_};
+ghost use Rattle.controller.specs.Inner.{
+  longerOf,
+  leavesOf,
+  leavesAt,
+  someLeave,
+  startOf,
+  begunOf,
+  failedOf,
+  dueOf,
+  countedOf,
+  isDue,
+  waitsOf,
+  StartFits,
+  WaitFits,
+};
+use crate::hot;
+use crate::hot::Counters;
+use crate::hot::Flags;
+use crate::hot::Hot;
+use crate::hot::Pause;
+use crate::hot::Plan;
+use crate::hot::Run;
+use crate::hot::Settings;
+use crate::hot::Wires;
+use reply::Position;
+use reply::Travel;
+
+// Whether some axis is longer than the master.
+fn longer(distances: [u32; 5], length: u32) -> bool
+    ensures { λ r. ⌜ r ≡ longerOf distances length ⌝ }
+{
+    if length < distances[0] {
+        return true;
+    }
+    if length < distances[1] {
+        return true;
+    }
+    if length < distances[2] {
+        return true;
+    }
+    if length < distances[3] {
+        return true;
+    }
+    length < distances[4]
+}
+
+// Whether a position leaves its range in so many steps.
+fn leaves(position: Position, minus: bool, distance: u32) -> bool
+    requires { ⌜ (position .0 ≤ 1048575) × (distance ≤ 524287) ⌝ }
+    ensures { λ r. ⌜ r ≡ leavesOf position minus distance ⌝ }
+{
+    if minus {
+        return position.0 < distance;
+    }
+    1048575 < position.0 + distance
+}
+
+fn leaves_at(next: Plan, counters: Counters, k: usize) -> bool
+    requires { ⌜ (k < 5) × StartFits next counters ⌝ }
+    ensures { λ r. ⌜ r ≡ leavesAt next counters k ⌝ }
+{
+    let position = counters.positions[k];
+    leaves(position, next.minus[k], next.distances[k])
+}
+
+// Whether some final position is out of range.
+fn some_leave(next: Plan, counters: Counters) -> bool
+    requires { ⌜ StartFits next counters ⌝ }
+    ensures { λ r. ⌜ r ≡ someLeave next counters ⌝ }
+{
+    if leaves_at(next, counters, 0) {
+        return true;
+    }
+    if leaves_at(next, counters, 1) {
+        return true;
+    }
+    if leaves_at(next, counters, 2) {
+        return true;
+    }
+    if leaves_at(next, counters, 3) {
+        return true;
+    }
+    leaves_at(next, counters, 4)
+}
+
+// The number that turns a start with this master away, or 0.
+pub(crate) fn start_number(settings: Settings, next: Plan, hot: Hot, master: u8) -> u8
+    requires { ⌜ (master < 5) × StartFits next (hot .counters) ⌝ }
+    ensures { λ r. ⌜ r ≡ startOf settings next hot master ⌝ }
+{
+    let flags = hot.flags;
+    if flags.emergency {
+        return 12;
+    }
+    if inputs::sensor(settings.low, settings.high, hot.inputs) {
+        return 13;
+    }
+    let distances = next.distances;
+    let minus = next.minus;
+    let length = distances[master as usize];
+    if longer(distances, length) {
+        return 14;
+    }
+    if length == 0 {
+        return 15;
+    }
+    if inputs::blocked(settings.low, settings.high, hot.inputs, distances, minus) {
+        return 16;
+    }
+    let counters = hot.counters;
+    if some_leave(next, counters) {
+        return 17;
+    }
+    0
+}
+
+// A move begins: travels and remainders 0, bits 3 and 6 cleared, no dwell, no waiting start.
+pub(crate) fn begun(next: Plan, polarity: u32, switch: u8, hot: Hot, master: u8) -> Hot
+    requires { ⌜ master < 5 ⌝ }
+    ensures { λ r. ⌜ r ≡ begunOf next polarity switch hot master ⌝ }
+{
+    let distances = next.distances;
+    let minus = next.minus;
+    let run = Run {
+        length: distances[master as usize],
+        gone: 0,
+        speed: 0,
+        phase: 0,
+        master,
+        moving: true,
+        stopping: false,
+    };
+    let was = hot.counters;
+    let positions = was.positions;
+    let counters = Counters {
+        travels: [Travel(0); 5],
+        remainders: [0; 5],
+        positions,
+    };
+    let cells = outputs::axis_cells(switch, polarity, minus);
+    let ready = hot.wires;
+    let wires = Wires {
+        general: ready.general,
+        cells,
+    };
+    let told = hot.flags;
+    let flags = Flags {
+        wrong: told.wrong,
+        stopped: false,
+        emergency: told.emergency,
+        sensed: false,
+    };
+    let pause = Pause {
+        left: 0,
+        waiting: 0,
+    };
+    Hot {
+        plan: next,
+        counters,
+        run,
+        wires,
+        pause,
+        inputs: hot.inputs,
+        outputs: hot.outputs,
+        watch: hot.watch,
+        flags,
+    }
+}
+
+// Hot after the dwell, with the number of a waiting start that failed, or 0.
+pub struct Waited {
+    pub hot: Hot,
+    pub number: u8,
+}
+
+// A waiting start that failed is dropped; 14 sets bit 2.
+fn failed(was: Hot, number: u8) -> Hot
+    ensures { λ r. ⌜ r ≡ failedOf was number ⌝ }
+{
+    let told = was.flags;
+    let flags = Flags {
+        wrong: hot::either(told.wrong, number == 14),
+        stopped: told.stopped,
+        emergency: told.emergency,
+        sensed: told.sensed,
+    };
+    let pause = Pause {
+        left: 0,
+        waiting: 0,
+    };
+    let mut next = was;
+    next.flags = flags;
+    next.pause = pause;
+    next
+}
+
+// The dwell has come to its end, and a waiting start is tried.
+fn due(settings: Settings, next: Plan, switch: u8, hot: Hot, master: u8) -> Waited
+    requires { ⌜ (master < 5) × StartFits next (hot .counters) ⌝ }
+    ensures { λ r. ⌜ r ≡ dueOf settings next switch hot master ⌝ }
+{
+    let number = start_number(settings, next, hot, master);
+    if number == 0 {
+        let started = begun(next, settings.polarity, switch, hot, master);
+        return Waited {
+            hot: started,
+            number: 0,
+        };
+    }
+    let hot = failed(hot, number);
+    Waited { hot, number }
+}
+
+// One tick of the dwell less.
+fn counted(hot: Hot) -> Hot
+    ensures { λ r. ⌜ r ≡ countedOf hot ⌝ }
+{
+    let pause = hot.pause;
+    if pause.left == 0 {
+        return hot;
+    }
+    let mut next = hot;
+    let pause = Pause {
+        left: pause.left - 1,
+        waiting: pause.waiting,
+    };
+    next.pause = pause;
+    next
+}
+
+fn is_due(pause: Pause) -> bool
+    ensures { λ r. ⌜ r ≡ isDue pause ⌝ }
+{
+    if pause.left == 1 {
+        return 0 < pause.waiting;
+    }
+    false
+}
+
+// Count the dwell down and, when it becomes 0, try a waiting start.
+pub(crate) fn waits(settings: Settings, next: Plan, switch: u8, hot: Hot) -> Waited
+    requires { ⌜ WaitFits next hot ⌝ }
+    ensures { λ r. ⌜ r ≡ waitsOf settings next switch hot ⌝ }
+{
+    let pause = hot.pause;
+    if is_due(pause) {
+        return due(settings, next, switch, hot, pause.waiting - 1);
+    }
+    let hot = counted(hot);
+    Waited { hot, number: 0 }
+}

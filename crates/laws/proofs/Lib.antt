@@ -1,0 +1,4 @@
+pub mod Pick
+pub mod Five
+pub mod BitLaws
+pub mod Some

@@ -1,0 +1,18 @@
+-- The rows of q in order. Assumes nothing.
+use Rattle.laws.proofs.Pick.{picks}
+use Rattle.line.proofs.form.form_small_q.Statement.{statement}
+use Rattle.line.proofs.form.form_small_q.Tie as tie
+use Rattle.line.proofs.form.form_small_q.Reads as reads
+use Rattle.line.proofs.form.form_small_q.Lts as lts
+
+returns : tie.Need-returns
+returns c = search picks depth 11
+
+returns-2 : tie.Need-returns-2
+returns-2 c = search picks depth 11
+
+returns-3 : tie.Need-returns-3
+returns-3 c = search picks depth 11
+
+pub form-small-q-spec : {M : Type 1} → statement M
+form-small-q-spec = tie.close (tie.spec returns returns-2 returns-3)

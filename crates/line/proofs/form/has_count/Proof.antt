@@ -1,0 +1,197 @@
+-- Check 9, a case for each row. Assumes nothing.
+use borrow.Author.Needs.{needs}
+use Rattle.line.proofs.form.has_count.Statement.{statement}
+use Rattle.line.proofs.form.has_count.Tie as tie
+use Rattle.line.proofs.form.has_count.Reads as reads
+use Rattle.line.proofs.form.has_count.Lts as lts
+use Rattle.line.proofs.form.none_or_six.Reads as none-or-six-reads
+use Rattle.line.proofs.form.within.Reads as within-reads
+
+enum-told : tie.Need-enum-told
+enum-told c = search needs
+
+enum-told-2 : tie.Need-enum-told-2
+enum-told-2 c = search needs
+
+enum-told-3 : tie.Need-enum-told-3
+enum-told-3 c = search needs
+
+enum-told-4 : tie.Need-enum-told-4
+enum-told-4 c = search needs
+
+enum-told-5 : tie.Need-enum-told-5
+enum-told-5 c = search needs
+
+enum-told-6 : tie.Need-enum-told-6
+enum-told-6 c = search needs
+
+within-requires : tie.Need-within-requires
+within-requires c κs = search needs
+
+enum-told-7 : tie.Need-enum-told-7
+enum-told-7 c = search needs
+
+enum-told-8 : tie.Need-enum-told-8
+enum-told-8 c = search needs
+
+within-requires-2 : tie.Need-within-requires-2
+within-requires-2 c κs = search needs
+
+enum-told-9 : tie.Need-enum-told-9
+enum-told-9 c = search needs
+
+within-requires-3 : tie.Need-within-requires-3
+within-requires-3 c κs = search needs
+
+enum-told-10 : tie.Need-enum-told-10
+enum-told-10 c = search needs
+
+within-requires-4 : tie.Need-within-requires-4
+within-requires-4 c κs = search needs
+
+enum-told-11 : tie.Need-enum-told-11
+enum-told-11 c = search needs
+
+within-requires-5 : tie.Need-within-requires-5
+within-requires-5 c κs = search needs
+
+enum-told-12 : tie.Need-enum-told-12
+enum-told-12 c = search needs
+
+within-requires-6 : tie.Need-within-requires-6
+within-requires-6 c κs = search needs
+
+enum-told-13 : tie.Need-enum-told-13
+enum-told-13 c = search needs
+
+within-requires-7 : tie.Need-within-requires-7
+within-requires-7 c κs = search needs
+
+enum-told-14 : tie.Need-enum-told-14
+enum-told-14 c = search needs
+
+enum-told-15 : tie.Need-enum-told-15
+enum-told-15 c = search needs
+
+enum-told-16 : tie.Need-enum-told-16
+enum-told-16 c = search needs
+
+within-requires-8 : tie.Need-within-requires-8
+within-requires-8 c κs = search needs
+
+enum-told-17 : tie.Need-enum-told-17
+enum-told-17 c = search needs
+
+within-requires-9 : tie.Need-within-requires-9
+within-requires-9 c κs = search needs
+
+enum-told-18 : tie.Need-enum-told-18
+enum-told-18 c = search needs
+
+none-or-six-requires : tie.Need-none-or-six-requires
+none-or-six-requires c κs = search needs
+
+returns : tie.Need-returns
+returns c = rw (c .enum-told .given .1)
+
+returns-2 : tie.Need-returns-2
+returns-2 c = rw (c .enum-told2 .given .1)
+
+returns-3 : tie.Need-returns-3
+returns-3 c = rw (c .enum-told3 .given .1)
+
+returns-4 : tie.Need-returns-4
+returns-4 c = rw (c .enum-told4 .given .1)
+
+returns-5 : tie.Need-returns-5
+returns-5 c = rw (c .enum-told5 .given .1)
+
+returns-6 : tie.Need-returns-6
+returns-6 c = rw (c .before .enum-told6 .given .1) (c .within .ensures)
+
+returns-7 : tie.Need-returns-7
+returns-7 c = rw (c .enum-told7 .given .1)
+
+returns-8 : tie.Need-returns-8
+returns-8 c = rw (c .before .enum-told8 .given .1) (c .within2 .ensures)
+
+returns-9 : tie.Need-returns-9
+returns-9 c = rw (c .before .enum-told9 .given .1) (c .within3 .ensures)
+
+returns-10 : tie.Need-returns-10
+returns-10 c = rw (c .before .enum-told10 .given .1) (c .within4 .ensures)
+
+returns-11 : tie.Need-returns-11
+returns-11 c = rw (c .before .enum-told11 .given .1) (c .within5 .ensures)
+
+returns-12 : tie.Need-returns-12
+returns-12 c = rw (c .before .enum-told12 .given .1) (c .within6 .ensures)
+
+returns-13 : tie.Need-returns-13
+returns-13 c = rw (c .before .enum-told13 .given .1) (c .within7 .ensures)
+
+returns-14 : tie.Need-returns-14
+returns-14 c = rw (c .enum-told14 .given .1)
+
+returns-15 : tie.Need-returns-15
+returns-15 c = rw (c .enum-told15 .given .1)
+
+returns-16 : tie.Need-returns-16
+returns-16 c = rw (c .before .enum-told16 .given .1) (c .within8 .ensures)
+
+returns-17 : tie.Need-returns-17
+returns-17 c = rw (c .before .enum-told17 .given .1) (c .within9 .ensures)
+
+returns-18 : tie.Need-returns-18
+returns-18 c = rw (c .before .enum-told18 .given .1) (c .none-or-six .ensures)
+
+pub has-count-spec : {M : Type 1} → statement M
+has-count-spec =
+    tie.close
+    (tie.spec
+    enum-told
+    enum-told-2
+    enum-told-3
+    enum-told-4
+    enum-told-5
+    enum-told-6
+    within-requires
+    enum-told-7
+    enum-told-8
+    within-requires-2
+    enum-told-9
+    within-requires-3
+    enum-told-10
+    within-requires-4
+    enum-told-11
+    within-requires-5
+    enum-told-12
+    within-requires-6
+    enum-told-13
+    within-requires-7
+    enum-told-14
+    enum-told-15
+    enum-told-16
+    within-requires-8
+    enum-told-17
+    within-requires-9
+    enum-told-18
+    none-or-six-requires
+    returns
+    returns-2
+    returns-3
+    returns-4
+    returns-5
+    returns-6
+    returns-7
+    returns-8
+    returns-9
+    returns-10
+    returns-11
+    returns-12
+    returns-13
+    returns-14
+    returns-15
+    returns-16
+    returns-17
+    returns-18)

@@ -1,0 +1,20 @@
+-- The test of a start's second digit is `isMaster`. Assumes nothing.
+use borrow.Author.Needs.{needs}
+use borrow.Author.Tests.{le-leb, lt-leb}
+use Rattle.line.proofs.form.is_master.Statement.{statement}
+use Rattle.line.proofs.form.is_master.Tie as tie
+use Rattle.line.proofs.form.is_master.Reads as reads
+use Rattle.line.proofs.form.is_master.Lts as lts
+use Rattle.line.proofs.form.within.Reads as within-reads
+
+returns : tie.Need-returns
+returns c = rw (le-leb _ _ (c .if1 .taken))
+
+within-requires : tie.Need-within-requires
+within-requires c κs = search needs
+
+returns-2 : tie.Need-returns-2
+returns-2 c = rw (lt-leb _ _ (c .before .if1 .left)) (c .within .ensures)
+
+pub is-master-spec : {M : Type 1} → statement M
+is-master-spec = tie.close (tie.spec returns within-requires returns-2)

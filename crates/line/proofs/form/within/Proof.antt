@@ -1,0 +1,15 @@
+-- The range test is `isWithin`. Assumes nothing.
+use borrow.Author.Tests.{le-leb, lt-leb}
+use Rattle.line.proofs.form.within.Statement.{statement}
+use Rattle.line.proofs.form.within.Tie as tie
+use Rattle.line.proofs.form.within.Reads as reads
+use Rattle.line.proofs.form.within.Lts as lts
+
+returns : tie.Need-returns
+returns c = rw (lt-leb _ _ (c .if1 .taken))
+
+returns-2 : tie.Need-returns-2
+returns-2 c = rw (le-leb _ _ (c .if1 .left))
+
+pub within-spec : {M : Type 1} → statement M
+within-spec = tie.close (tie.spec returns returns-2)

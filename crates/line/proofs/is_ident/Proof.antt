@@ -1,0 +1,33 @@
+-- The identification test is `isIdent` of the digit read. Assumes nothing.
+use borrow.Author.Needs.{needs}
+use Rattle.line.proofs.is_ident.Statement.{statement}
+use Rattle.line.proofs.is_ident.Tie as tie
+use Rattle.line.proofs.is_ident.Reads as reads
+use Rattle.line.proofs.is_ident.Lts as lts
+use Rattle.digits.proofs.read_digit.Reads as read-digit-reads
+
+read-digit-requires : tie.Need-read-digit-requires
+read-digit-requires c κs = search needs
+
+enum-told : tie.Need-enum-told
+enum-told c = search needs
+
+enum-told-2 : tie.Need-enum-told-2
+enum-told-2 c = search needs
+
+enum-told-3 : tie.Need-enum-told-3
+enum-told-3 c = search needs
+
+returns : tie.Need-returns
+returns c = rw (← c .before .before .read-digit .ensures, c .enum-told .given .1)
+
+returns-2 : tie.Need-returns-2
+returns-2 c = rw (← c .before .before .read-digit .ensures, c .enum-told2 .given .1)
+
+returns-3 : tie.Need-returns-3
+returns-3 c = rw (← c .before .before .read-digit .ensures, c .enum-told3 .given .1)
+
+pub is-ident-spec : {M : Type 1} → statement M
+is-ident-spec =
+    tie.close
+    (tie.spec read-digit-requires enum-told enum-told-2 enum-told-3 returns returns-2 returns-3)

@@ -1,0 +1,61 @@
+-- Status bit 1 is the move's own flag, and small laws of Booleans. Assumes nothing.
+use Prim.Native.Nat.{ℕ, _+_, _*_, _/_, _%_, _^_, _≤_, _<_}
+use mathlib.Core.Bool.{Bool, true, false, cond, not, _&&_, _||_}
+use mathlib.Core.Path.{_≡_, refl}
+use native.Mathlib.Omega.{arith}
+use borrow.Author.Tests.{eq-eqb, ne-eqb}
+use lib.Dec.{eqb, ltb}
+use Rattle.machine.specs.State.{Move, Flags, Pause, Machine}
+use Rattle.laws.specs.Bits.{bit, weight}
+use Rattle.machine.specs.Stops.{blocked, current, status}
+use Rattle.machine.specs.Demand.{moves}
+
+fourfold : (b : Bool) (n m : ℕ) → m ≡ 4 * n → weight b m ≡ 4 * weight b n
+fourfold true n m e = e
+fourfold false n m e = refl
+
+is-high : (n : ℕ) → 2 ≤ n % 4 → bit n 1 ≡ true
+is-high n h = eq-eqb (n / 2 % 2) 1 (omega arith)
+
+is-low : (n : ℕ) → n % 4 < 2 → bit n 1 ≡ false
+is-low n h = ne-eqb (n / 2 % 2) 1 (λ (q : n / 2 % 2 ≡ 1). omega arith)
+
+second-bit : (a b c d e f g : Bool)
+    → bit (weight a 1 + weight b 2 + weight c 4 + weight d 8 + weight e 16 + weight f 32 + weight g 64) 1 ≡ b
+second-bit a b c d e f g = by-cases a b
+  where
+    c4 : weight c 4 ≡ 4 * weight c 1
+    c4 = fourfold c 1 4 refl
+
+    d4 : weight d 8 ≡ 4 * weight d 2
+    d4 = fourfold d 2 8 refl
+
+    e4 : weight e 16 ≡ 4 * weight e 4
+    e4 = fourfold e 4 16 refl
+
+    f4 : weight f 32 ≡ 4 * weight f 8
+    f4 = fourfold f 8 32 refl
+
+    g4 : weight g 64 ≡ 4 * weight g 16
+    g4 = fourfold g 16 64 refl
+
+    by-cases : (a b : Bool)
+        → bit (weight a 1 + weight b 2 + weight c 4 + weight d 8 + weight e 16 + weight f 32 + weight g 64) 1 ≡ b
+    by-cases true true =
+        is-high (1 + 2 + weight c 4 + weight d 8 + weight e 16 + weight f 32 + weight g 64)
+        (omega (arith, c4, d4, e4, f4, g4))
+    by-cases false true =
+        is-high (0 + 2 + weight c 4 + weight d 8 + weight e 16 + weight f 32 + weight g 64)
+        (omega (arith, c4, d4, e4, f4, g4))
+    by-cases true false =
+        is-low (1 + 0 + weight c 4 + weight d 8 + weight e 16 + weight f 32 + weight g 64)
+        (omega (arith, c4, d4, e4, f4, g4))
+    by-cases false false =
+        is-low (0 + 0 + weight c 4 + weight d 8 + weight e 16 + weight f 32 + weight g 64)
+        (omega (arith, c4, d4, e4, f4, g4))
+
+-- Status bit 1 says whether the move runs.
+pub status-moving : (m : Machine) → moves m ≡ m .move .moving
+status-moving m =
+    second-bit (m .move .moving || ltb 0 (m .pause .left)) (m .move .moving) (m .flags .wrongMaster) (m .flags .stopped)
+    (blocked m (current m)) (m .flags .emergency) (m .flags .sensed)

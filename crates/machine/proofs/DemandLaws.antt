@@ -1,0 +1,264 @@
+-- Demand 3, for every list of calls: what each call does (CallLaws), summed up over the list. Assumes nothing.
+use Prim.Native.Nat.{ℕ, _+_, _*_, _≤_, _<_}
+use mathlib.Core.Bool.{Bool, true, false, cond, not, _&&_, _||_}
+use mathlib.Core.List.{List, [], _∷_}
+use mathlib.Core.Path.{_≡_, refl, sym, ap, subst, _∙_}
+use native.Mathlib.Omega.{arith}
+use borrow.Author.Tests.{not-true}
+use lib.IntN.{ℤ, pos, _+ℤ_, natAbs}
+use Rattle.machine.specs.State.{Plan, Move, Machine}
+use Rattle.machine.specs.Shares as shares
+use Rattle.laws.specs.Axes.{directed}
+use Rattle.machine.specs.Steps.{Tried, untried, failed, began}
+use Rattle.machine.specs.Calls.{Call, byte, tick, after, state}
+use Rattle.machine.specs.Demand.{
+  Role,
+  lineOf,
+  takesEffect,
+  moves,
+  stopsIn,
+  resetBy,
+  distanceBy,
+  minusBy,
+  sent,
+  isTick,
+  begins,
+  atStart,
+  isPulse,
+  lastDistance,
+  lastMinus,
+  started,
+  distance,
+  minus,
+  master,
+  counted,
+  signed,
+  stopBegun,
+  goesOn,
+  ends,
+  latest,
+  travel,
+  position,
+  gone,
+  whole,
+  ShareLaw,
+  Answer,
+  Ended,
+  Holds,
+  Demand3,
+}
+use Rattle.machine.proofs.BitLaws.{status-moving}
+use Rattle.machine.proofs.ShareLaws.{Share, share-none}
+use Rattle.machine.proofs.RunLaws.{Good, Whole, true-false, and-first}
+use Rattle.machine.proofs.CallLaws.{Called, called}
+use Rattle.machine.proofs.FitLaws.{fits}
+
+-- What a list leaves, against what is read off it.
+record Told (s : ℕ) (h : List Call) : Type 0 where
+  good : Good (state s h .move)
+  nextDistance : (k : ℕ) → state s h .next .distance k ≡ lastDistance s h k
+  nextMinus : (k : ℕ) → state s h .next .minus k ≡ lastMinus s h k
+  distances : (k : ℕ) → state s h .move .plan .distance k ≡ distance s h k
+  minuses : (k : ℕ) → state s h .move .plan .minus k ≡ minus s h k
+  masters : state s h .move .master ≡ master s h
+  counts : (k : ℕ) → k < 5 → state s h .move .travel k ≡ counted s h k
+  sums : (k : ℕ) → state s h .position k ≡ signed s h k
+  goes : state s h .move .moving ≡ goesOn s h
+  stops : state s h .move .moving ≡ true → state s h .move .stopping ≡ stopBegun s h
+  positive : started s h ≡ true → 0 < shares.whole (state s h .move)
+  rest : started s h ≡ true → state s h .move .moving ≡ false → stopBegun s h ≡ false
+      → (k : ℕ) → k < 5 → state s h .move .travel k ≡ state s h .move .plan .distance k
+
+told-none : (s : ℕ) → Told s []
+unfolding state lastDistance lastMinus started distance minus master counted signed stopBegun goesOn
+told-none s = record {
+  good = record { axis = λ k h. share-none 0 0 (omega arith); under = λ q. true-false false q refl };
+  nextDistance = λ k. refl;
+  nextMinus = λ k. refl;
+  distances = λ k. refl;
+  minuses = λ k. refl;
+  masters = refl;
+  counts = λ k h. refl;
+  sums = λ k. refl;
+  goes = refl;
+  stops = λ q. refl;
+  positive = λ q. true-false false q refl;
+  rest = λ q. true-false false q refl;
+}
+
+same-start : {A : Type 0} (S : Tried) (f g : ℕ → A) (x y : A) → ((j : ℕ) → f j ≡ g j) → x ≡ y → atStart S f x ≡ atStart S g y
+same-start untried f g x y p q = q
+same-start (failed n) f g x y p q = q
+same-start (began j) f g x y p q = p j
+
+or-split : {A : Type 0} (a b : Bool) → a || b ≡ true → (a ≡ true → A) → (a ≡ false → b ≡ true → A) → A
+or-split true b e f g = f refl
+or-split false b e f g = g refl e
+
+or-none : (a b : Bool) → a || b ≡ false → (a ≡ false) × (b ≡ false)
+or-none true b e = true-false true refl e
+or-none false b e = (refl, e)
+
+same-stop : (P B X Y : Bool) → (B ≡ false → X ≡ Y) → P || (not B && X) ≡ P || (not B && Y)
+same-stop P true X Y h = refl
+same-stop P false X Y h = ap (λ (b : Bool). P || b) (h refl)
+
+old-start : {A : Type 0} (S : Tried) (f : ℕ → A) (x : A) → begins S ≡ false → atStart S f x ≡ x
+old-start untried f x e = refl
+old-start (failed n) f x e = refl
+old-start (began j) f x e = true-false true refl e
+
+second-of : (a b : Bool) → a || b ≡ true → a ≡ false → b ≡ true
+second-of true b e f = true-false true refl f
+second-of false b e f = e
+
+by-flag : {A : Type 0} (b : Bool) → (b ≡ true → A) → (b ≡ false → A) → A
+by-flag true f g = f refl
+by-flag false f g = g refl
+
+-- A call after which the latest move does not run, though it did before or began in it, and no stop has begun in it.
+whole-end : (s : ℕ) (h : List Call) (x : Call) → Told s h
+    → begins (takesEffect (state s h) x) || state s h .move .moving ≡ true → after (state s h) x .move .moving ≡ false
+    → stopsIn (state s h) x || (not (begins (takesEffect (state s h) x)) && stopBegun s h) ≡ false
+    → Whole (after (state s h) x .move) (sent (state s h) x)
+whole-end s h x t b e f = by-flag (isTick x)
+    (λ i. c .ending i b e
+    (same-stop (stopsIn (state s h) x) (begins (takesEffect (state s h) x)) _ _
+    (λ n. t .stops (second-of (begins (takesEffect (state s h) x)) (state s h .move .moving) b n)) ∙ f))
+    (λ i. true-false (after (state s h) x .move .moving)
+    (c .goes ∙ (λ j. b j && (not (i j) || after (state s h) x .move .moving))) e)
+  where
+    c : Called (state s h) (lineOf (state s h) x) (takesEffect (state s h) x) (stopsIn (state s h) x) (isTick x)
+        (sent (state s h) x) (after (state s h) x)
+    c = called (state s h) x (t .good)
+
+told-next : (s : ℕ) (h : List Call) (x : Call) → Told s h → Told s (x ∷ h)
+unfolding state lastDistance lastMinus started distance minus master counted signed stopBegun goesOn
+told-next s h x t = record {
+  good = c .good;
+  nextDistance = λ k. c .nextDistance k ∙ ap (λ (n : ℕ). distanceBy L k n) (t .nextDistance k);
+  nextMinus = λ k. c .nextMinus k ∙ ap (λ (b : Bool). minusBy L k b) (t .nextMinus k);
+  distances = λ k. c .distance k ∙ same-start S _ _ _ _ (λ j. t .nextDistance k) (t .distances k);
+  minuses = λ k. c .minus k ∙ same-start S _ _ _ _ (λ j. t .nextMinus k) (t .minuses k);
+  masters = c .master ∙ same-start S _ _ _ _ (λ j. refl) (t .masters);
+  counts = λ k l. c .count k l ∙ ap (λ (n : ℕ). cond (begins S) 0 n + isPulse (sent m x k)) (t .counts k l);
+  sums = λ k. c .sum k ∙ ap (λ (z : ℤ). cond (resetBy L) (pos 0) (z +ℤ sent m x k)) (t .sums k);
+  goes = c .goes ∙ (λ i. (begins S || t .goes i) && (not (isTick x) || sym (status-moving (after m x)) i));
+  stops = λ q. c .stopped q ∙ stop q;
+  positive = λ q. or-split (begins S) (started s h) q (λ b. c .positive b)
+      (λ b u. subst (λ (n : ℕ). 0 < n) (sym (size b)) (t .positive u));
+  rest = λ q e f k l. by-flag (begins S || state s h .move .moving)
+      (λ b. whole-end s h x t b e f .there k l)
+      (λ b. let n = or-none (begins S) (state s h .move .moving) b in
+      c .idle (n .0) (n .1) k l
+      ∙ (t .rest (second-of (begins S) (started s h) q (n .0)) (n .1) (unstopped (n .0) f) k l ∙ sym (kept (n .0) k)));
+}
+  where
+    m : Machine
+    m = state s h
+
+    L : Role
+    L = lineOf (state s h) x
+
+    S : Tried
+    S = takesEffect (state s h) x
+
+    c : Called (state s h) (lineOf (state s h) x) (takesEffect (state s h) x) (stopsIn (state s h) x) (isTick x)
+        (sent (state s h) x) (after (state s h) x)
+    c = called (state s h) x (t .good)
+
+    stop : after (state s h) x .move .moving ≡ true
+        → stopsIn (state s h) x || (not (begins (takesEffect (state s h) x)) && state s h .move .stopping)
+        ≡ stopsIn (state s h) x || (not (begins (takesEffect (state s h) x)) && stopBegun s h)
+    stop q = same-stop (stopsIn (state s h) x) (begins (takesEffect (state s h) x)) _ _
+        (λ b. t .stops (second-of (begins (takesEffect (state s h) x)) (state s h .move .moving)
+        (and-first _ _ (sym (c .goes) ∙ q)) b))
+
+    kept : begins (takesEffect (state s h) x) ≡ false → (k : ℕ)
+        → after (state s h) x .move .plan .distance k ≡ state s h .move .plan .distance k
+    kept b k = c .distance k ∙ old-start (takesEffect (state s h) x) _ _ b
+
+    size : begins (takesEffect (state s h) x) ≡ false
+        → shares.whole (after (state s h) x .move) ≡ shares.whole (state s h .move)
+    size b = ap (λ (j : ℕ). after (state s h) x .move .plan .distance j)
+        (c .master ∙ old-start (takesEffect (state s h) x) _ _ b) ∙ kept b (state s h .move .master)
+
+    unstopped : begins (takesEffect (state s h) x) ≡ false
+        → stopsIn (state s h) x || (not (begins (takesEffect (state s h) x)) && stopBegun s h) ≡ false → stopBegun s h ≡ false
+    unstopped b f =
+        let n = or-none (stopsIn (state s h) x) _ f in
+        subst (λ (w : Bool). not w && stopBegun s h ≡ false) b (n .1)
+
+told : (s : ℕ) (h : List Call) → Told s h
+told s [] = told-none s
+told s (x ∷ h) = told-next s h x (told s h)
+
+-- ---- The claims
+
+module _ (s : ℕ) (h : List Call) (t : Told s h) where
+  same-whole : shares.whole (state s h .move) ≡ whole s h
+  same-whole = ap (λ (j : ℕ). state s h .move .plan .distance j) (t .masters) ∙ t .distances (master s h)
+
+  same-gone : shares.gone (state s h .move) ≡ gone s h
+  same-gone = ap (λ (j : ℕ). state s h .move .travel j) (t .masters)
+
+  shares-hold : (k : ℕ) → k < 5 → started s h ≡ true → ShareLaw s h k
+  shares-hold k l b =
+      let a : Share (distance s h k) (whole s h) (gone s h) (travel s h k) =
+      subst (λ (d : ℕ). Share d (whole s h) (gone s h) (travel s h k)) (t .distances k)
+      (subst (λ (n : ℕ). Share (state s h .move .plan .distance k) n (gone s h) (travel s h k)) same-whole
+      (subst (λ (n : ℕ). Share (state s h .move .plan .distance k) (shares.whole (state s h .move)) n (travel s h k)) same-gone
+      (t .good .axis k l))) in
+      let p : 0 < whole s h = subst (λ (n : ℕ). 0 < n) same-whole (t .positive b) in
+      record {
+        longest = a .short;
+        positive = p;
+        notAhead = a .low;
+        notBehind = a .high p;
+        counts = t .counts k l;
+      }
+
+answer-holds : (s : ℕ) (h : List Call) (k : ℕ) → k < 5 → Answer s h k
+unfolding latest state
+answer-holds s [] k l = record { single = omega arith; sign = λ q. absurd (omega arith) }
+answer-holds s (x ∷ h) k l =
+    let c = called (state s h) x (told s h .good) in
+    record {
+      single = c .single k l;
+      sign = λ q. c .sign k l q ∙ ap (λ (b : Bool). directed b 1) (told s (x ∷ h) .minuses k);
+    }
+
+and-parts : (a b : Bool) → a && b ≡ true → (a ≡ true) × (b ≡ true)
+and-parts true b e = (refl, e)
+and-parts false b e = true-false false e refl
+
+ending-holds : (s : ℕ) (h : List Call) (k : ℕ) → k < 5 → ends s h ≡ true → stopBegun s h ≡ false → Ended s h k
+unfolding latest state ends stopBegun
+ending-holds s [] k l e f = true-false false e refl
+ending-holds s (x ∷ h) k l e f =
+    let t = told s h in
+    let u = told s (x ∷ h) in
+    let p = and-parts (isTick x) _ e in
+    let q = and-parts (begins (takesEffect (state s h) x) || goesOn s h) _ (p .1) in
+    let w = whole-end s h x t
+    ((λ i. begins (takesEffect (state s h) x) || t .goes i) ∙ q .0)
+    (sym (status-moving (after (state s h) x)) ∙ not-true (moves (after (state s h) x)) (q .1)) f in
+    record {
+      full = sym (same-gone s (x ∷ h) u) ∙ (w .reached ∙ same-whole s (x ∷ h) u);
+      there = w .there k l ∙ u .distances k;
+      last = λ d. w .last k l (subst (λ (n : ℕ). 0 < n) (sym (u .distances k)) d);
+    }
+
+stays-holds : (s : ℕ) (h : List Call) (k : ℕ) → k < 5 → started s h ≡ true → goesOn s h ≡ false → stopBegun s h ≡ false
+    → travel s h k ≡ distance s h k
+stays-holds s h k l b g f = told s h .rest b (told s h .goes ∙ g) f k l ∙ told s h .distances k
+
+pub demand-3 : Demand3
+demand-3 s h k l = record {
+  shares = shares-hold s h (told s h) k l;
+  sums = told s h .sums k;
+  within = fits s h .places .inside k l;
+  answer = answer-holds s h k l;
+  ending = ending-holds s h k l;
+  stays = stays-holds s h k l;
+}

@@ -1,0 +1,9 @@
+pub mod BitLaws
+pub mod ShareLaws
+pub mod RunLaws
+pub mod PositionLaws
+pub mod CallLaws
+pub mod FitLaws
+pub mod DemandLaws
+pub mod MarkedLaws
+pub mod WitnessLaws

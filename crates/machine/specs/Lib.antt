@@ -1,0 +1,13 @@
+pub mod State
+pub mod Shares
+pub mod Ramp
+pub mod Stops
+pub mod Starts
+pub mod Commands
+pub mod Replies
+pub mod Outputs
+pub mod Steps
+pub mod Calls
+pub mod Demand
+pub mod Marked
+pub mod Witness

@@ -1,0 +1,117 @@
+-- One list of calls to which demand 3 has something to say: a start takes effect, its move is stopped by order 9 at a
+-- crooked pulse, and another runs to its end. Distances 5, 2 and minus 3, master 0, switch 0.
+use Prim.Native.Nat.{ℕ, zero, suc}
+use Prim.Native.String.{String}
+use mathlib.Core.Bool.{Bool, true, false}
+use mathlib.Core.List.{List, [], _∷_}
+use mathlib.Core.Path.{_≡_}
+use lib.IntN.{ℤ, pos, negsuc}
+use Rattle.laws.specs.Axes.{each}
+use Rattle.machine.specs.Calls.{Call, byte, tick}
+use Rattle.machine.specs.Demand.{
+  started,
+  ends,
+  goesOn,
+  stopBegun,
+  distance,
+  minus,
+  travel,
+  counted,
+  position,
+  signed,
+  latest,
+}
+use Rattle.machine.specs.Marked.{chars, buffer}
+
+-- ---- Lists of calls, the latest first
+
+-- Bytes, each with a lent buffer.
+abbrev pub bytes : List ℕ → List Call → List Call
+bytes [] h = h
+bytes (b ∷ bs) h = bytes bs (byte b buffer ∷ h)
+
+-- A line: its characters and 0D.
+abbrev pub line : String → List Call → List Call
+line l h = byte 13 buffer ∷ bytes (chars l) h
+
+-- n ticks with the input word 0.
+abbrev pub ticks : ℕ → List Call → List Call
+ticks zero h = h
+ticks (suc n) h = tick 0 ∷ ticks n h
+
+-- Distances, speed and slope.
+abbrev pub prepared : List Call
+prepared = line "P0900FFF" (line "P08F4240" (line "P0280003" (line "P0100002" (line "P0000005" []))))
+
+-- The start; order 9 under way; the tick that ends the stopped move; the start again; the tick that ends that move.
+unfoldable pub begun : List Call
+begun = line "Q080" prepared
+
+unfoldable pub ordered : List Call
+unfolding begun
+ordered = line "Q09" (ticks 199 begun)
+
+unfoldable pub stopped : List Call
+unfolding ordered
+stopped = ticks 199 ordered
+
+unfoldable pub again : List Call
+unfolding stopped
+again = line "Q080" stopped
+
+unfoldable pub finished : List Call
+unfolding again
+finished = ticks 480 again
+
+-- ---- What demand 3 reads off a list
+
+-- Whether a start has taken effect, the latest move goes on, a stop has begun in it, and it ends in the latest call.
+pub record Phase : Type 0 where
+  pub started : Bool
+  pub goesOn : Bool
+  pub stopBegun : Bool
+  pub ends : Bool
+
+abbrev pub phaseOf : List Call → Phase
+phaseOf h = record { started = started 0 h; goesOn = goesOn 0 h; stopBegun = stopBegun 0 h; ends = ends 0 h }
+
+-- Of the five axes: travels, the pulses that ticks answered since the start, and the answers of the latest call.
+pub record Figures : Type 0 where
+  pub travel : List ℕ
+  pub counted : List ℕ
+  pub latest : List ℤ
+
+abbrev pub figuresOf : List Call → Figures
+figuresOf h = record {
+  travel = each (travel 0 h);
+  counted = each (counted 0 h);
+  latest = each (latest 0 h);
+}
+
+pub record Witness : Type 0 where
+  -- no start has taken effect before the line that starts, and one has with it
+  pub resting : phaseOf prepared ≡ record { started = false; goesOn = false; stopBegun = false; ends = false }
+  pub starts : phaseOf begun ≡ record { started = true; goesOn = true; stopBegun = false; ends = false }
+  -- order 9 begins a stop; the move goes on
+  pub orders : phaseOf ordered ≡ record { started = true; goesOn = true; stopBegun = true; ends = false }
+  -- it ends short of M, at m = 3, where 3 × 2 / 5 and 3 × 3 / 5 are no whole numbers
+  pub stops : phaseOf stopped ≡ record { started = true; goesOn = false; stopBegun = true; ends = true }
+  pub short : figuresOf stopped ≡ record {
+    travel = 3 ∷ 1 ∷ 1 ∷ 0 ∷ 0 ∷ [];
+    counted = 3 ∷ 1 ∷ 1 ∷ 0 ∷ 0 ∷ [];
+    latest = pos 0 ∷ pos 0 ∷ pos 0 ∷ pos 0 ∷ pos 0 ∷ [];
+  }
+  -- the same distances started again run to their end, and all three pumps send their last pulse in one tick
+  pub restarts : phaseOf again ≡ record { started = true; goesOn = true; stopBegun = false; ends = false }
+  pub finishes : phaseOf finished ≡ record { started = true; goesOn = false; stopBegun = false; ends = true }
+  pub full : figuresOf finished ≡ record {
+    travel = 5 ∷ 2 ∷ 3 ∷ 0 ∷ 0 ∷ [];
+    counted = 5 ∷ 2 ∷ 3 ∷ 0 ∷ 0 ∷ [];
+    latest = pos 1 ∷ pos 1 ∷ negsuc 0 ∷ pos 0 ∷ pos 0 ∷ [];
+  }
+  -- positions are the sums of the answers of both moves
+  pub positions : each (position 0 finished) ≡ pos 8 ∷ pos 3 ∷ negsuc 3 ∷ pos 0 ∷ pos 0 ∷ []
+  pub sums : each (signed 0 finished) ≡ pos 8 ∷ pos 3 ∷ negsuc 3 ∷ pos 0 ∷ pos 0 ∷ []
+  -- distances and directions are those of the distance lines
+  pub distances : each (distance 0 finished) ≡ 5 ∷ 2 ∷ 3 ∷ 0 ∷ 0 ∷ []
+  pub directions : each (minus 0 finished) ≡ false ∷ false ∷ true ∷ false ∷ false ∷ []

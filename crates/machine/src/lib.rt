@@ -1,0 +1,1 @@
+// The machine of paper 01: definitions and laws only.

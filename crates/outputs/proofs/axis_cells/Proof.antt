@@ -1,0 +1,105 @@
+-- `axis_cells` meets its contract: five axes, each with the polarity shifted down to it. Assumes nothing.
+use borrow.Author.Needs.{needs}
+use mathlib.Core.Bool.{false}
+use lib.ListN.{getD}
+use Rattle.outputs.proofs.Parts.{rests-each, fires-each}
+use Rattle.outputs.proofs.axis_cells.Statement.{statement}
+use Rattle.outputs.proofs.axis_cells.Tie as tie
+
+array-read-rest : tie.Need-array-read-rest
+array-read-rest c = search needs
+
+rest-requires : tie.Need-rest-requires
+rest-requires c κs = search needs
+
+array-read-rest-2 : tie.Need-array-read-rest-2
+array-read-rest-2 c = search needs
+
+rest-requires-2 : tie.Need-rest-requires-2
+rest-requires-2 c κs = search needs
+
+array-read-rest-3 : tie.Need-array-read-rest-3
+array-read-rest-3 c = search needs
+
+rest-requires-3 : tie.Need-rest-requires-3
+rest-requires-3 c κs = search needs
+
+array-read-rest-4 : tie.Need-array-read-rest-4
+array-read-rest-4 c = search needs
+
+rest-requires-4 : tie.Need-rest-requires-4
+rest-requires-4 c κs = search needs
+
+array-read-rest-5 : tie.Need-array-read-rest-5
+array-read-rest-5 c = search needs
+
+rest-requires-5 : tie.Need-rest-requires-5
+rest-requires-5 c κs = search needs
+
+array-read-fire : tie.Need-array-read-fire
+array-read-fire c = search needs
+
+fire-requires : tie.Need-fire-requires
+fire-requires c κs = search needs
+
+array-read-fire-2 : tie.Need-array-read-fire-2
+array-read-fire-2 c = search needs
+
+fire-requires-2 : tie.Need-fire-requires-2
+fire-requires-2 c κs = search needs
+
+array-read-fire-3 : tie.Need-array-read-fire-3
+array-read-fire-3 c = search needs
+
+fire-requires-3 : tie.Need-fire-requires-3
+fire-requires-3 c κs = search needs
+
+array-read-fire-4 : tie.Need-array-read-fire-4
+array-read-fire-4 c = search needs
+
+fire-requires-4 : tie.Need-fire-requires-4
+fire-requires-4 c κs = search needs
+
+array-read-fire-5 : tie.Need-array-read-fire-5
+array-read-fire-5 c = search needs
+
+fire-requires-5 : tie.Need-fire-requires-5
+fire-requires-5 c κs = search needs
+
+returns : tie.Need-returns
+returns c =
+    let a = c .before .before .before .before .before .before .before .before .before .before .args in
+    let r = c .before .before .before .before .before in (
+      rests-each (a .switch) (a .polarity) (λ k. getD (a .t3) k false)
+          (r .before .before .before .before .rest .ensures) (r .before .before .before .rest2 .ensures)
+          (r .before .before .rest3 .ensures) (r .before .rest4 .ensures) (r .rest5 .ensures),
+      fires-each (a .switch) (a .polarity) (λ k. getD (a .t3) k false)
+          (c .before .before .before .before .fire .ensures) (c .before .before .before .fire2 .ensures)
+          (c .before .before .fire3 .ensures) (c .before .fire4 .ensures) (c .fire5 .ensures),
+    )
+
+pub axis-cells-spec : {M : Type 1} → statement M
+axis-cells-spec =
+    tie.close
+    (tie.spec
+    array-read-rest
+    rest-requires
+    array-read-rest-2
+    rest-requires-2
+    array-read-rest-3
+    rest-requires-3
+    array-read-rest-4
+    rest-requires-4
+    array-read-rest-5
+    rest-requires-5
+    array-read-fire
+    fire-requires
+    array-read-fire-2
+    fire-requires-2
+    array-read-fire-3
+    fire-requires-3
+    array-read-fire-4
+    fire-requires-4
+    array-read-fire-5
+    fire-requires-5
+    returns)

@@ -1,0 +1,97 @@
+// The receiver (paper 01, "Lines"): takes one byte a call and hands the next state back. A line may have any length:
+// its first ten characters tell all that is asked of it. Byte 0D ends the line, all other 255 values are characters.
+// Every public function is total: it has no premise and states its result for every input. Assumes nothing.
+ghost use mathlib.Core.Path.{_≡_};
+ghost use mathlib.Core.List.{[]};
+ghost use Rattle.receiver.specs.Receiver.{holding, pushOf, takenOf, receive, heldTaken, heardOf, Holding};
+use digits::Ident;
+use line::Judged;
+
+// Byte 0D, which ends a line.
+const END: u8 = 13;
+
+// The line that is being received: its first ten characters, zeros after them, and their count.
+pub struct Receiver {
+    chars: [u8; 10],
+    count: u8,
+}
+
+// What comes of a byte.
+pub enum Heard {
+    // A character of a line.
+    Character,
+    // The end of a line: whether it is silent, its identification, and its judgement.
+    Line {
+        silent: bool,
+        ident: Ident,
+        judged: Judged,
+    },
+}
+
+// The next state, and what comes of the byte.
+pub struct Taken {
+    pub next: Receiver,
+    pub heard: Heard,
+}
+
+impl Receiver {
+    // A receiver with nothing received.
+    pub fn new() -> Receiver
+        ensures { λ r. ⌜ r ≡ holding [] ⌝ }
+    {
+        Receiver {
+            chars: [0; 10],
+            count: 0,
+        }
+    }
+
+    // One character more. From ten on the count stands still.
+    fn push(self, b: u8) -> Receiver
+        ensures { λ r. ⌜ r ≡ pushOf self b ⌝ }
+    {
+        let count = self.count;
+        if 10 <= count {
+            return self;
+        }
+        let mut chars = self.chars;
+        let at = count as usize;
+        chars[at] = b;
+        Receiver {
+            chars,
+            count: count + 1,
+        }
+    }
+
+    // The line as it stands, judged.
+    fn heard(self) -> Heard
+        ensures { λ r. ⌜ r ≡ heardOf self ⌝ }
+    {
+        let cs = self.chars;
+        let count = self.count;
+        let silent = line::is_silent(cs, count);
+        let ident = line::ident(cs, count);
+        let judged = line::judge(cs, count);
+        Heard::Line {
+            silent,
+            ident,
+            judged,
+        }
+    }
+
+    // One byte: stated on what is held, and so for every list of characters so held, however long.
+    pub fn take(self, b: u8) -> Taken
+        ensures { λ r. ⌜ r ≡ takenOf self b ⌝ }
+        ensures { λ r. ⌜ Holding self (λ l. r ≡ heldTaken (receive l b)) ⌝ }
+    {
+        if b == END {
+            let heard = self.heard();
+            let next = Receiver::new();
+            return Taken { next, heard };
+        }
+        let next = self.push(b);
+        Taken {
+            next,
+            heard: Heard::Character,
+        }
+    }
+}

@@ -1,0 +1,4 @@
+pub mod Figures
+pub mod Replies
+pub mod Axes
+pub mod Examples

@@ -1,0 +1,139 @@
+-- The replies (paper 01, "Lines", Replies): what each accepted command answers, from the figures that a controller can
+-- tell, and how a travel and a position are held.
+use Prim.Native.Nat.{ℕ, _+_, _-_, _*_, _%_, _<_}
+use mathlib.Core.Bool.{Bool, false, cond}
+use mathlib.Core.List.{List, [], _∷_}
+use lib.Dec.{ltb}
+use lib.IntN.{ℤ, pos, negsuc, _+ℤ_}
+use lib.ListN.{getD}
+use Rattle.laws.specs.Bits.{weight}
+use Rattle.digits.specs.declared.Ident.{Ident}
+use Rattle.digits.specs.declared.Ident.the-variants.{Absent}
+use Rattle.block.specs.Block.{blockOf, rowOf}
+use Rattle.line.specs.declared.Command.{Command}
+use Rattle.line.specs.declared.Command.the-variants as C
+use Rattle.reply.specs.declared.Answer.{Answer}
+use Rattle.reply.specs.declared.Answer.the-variants.{One, All}
+use Rattle.reply.specs.declared.Travel.{Travel}
+use Rattle.reply.specs.declared.Position.{Position}
+use Rattle.reply.specs.declared.Readings.{Readings}
+
+-- What replies are made from: the switch, for each axis the five digits of its travel (with the minus bit) and of its
+-- position, the status and the last tick's inputs.
+pub record Told : Type 0 where
+  pub switch : ℕ
+  pub travel : ℕ → ℕ
+  pub position : ℕ → ℕ
+  pub status : ℕ
+  pub inputs : ℕ
+
+-- A code and the five digits after it.
+abbrev pub coded : ℕ → ℕ → ℕ
+coded code v = code * 1048576 + v
+
+-- One block: U (85), S (83), s (115) or R (82), the switch, the digits, the identification.
+abbrev pub blockFor : ℕ → ℕ → ℕ → Ident → List ℕ
+blockFor switch letter digits ident =
+    blockOf (record { letter = letter; switch = switch; number = digits; ident = ident })
+
+-- q 8: the five S travels, S status, five s, R, each with the identification.
+abbrev pub letters : List ℕ
+letters = 83 ∷ 83 ∷ 83 ∷ 83 ∷ 83 ∷ 83 ∷ 115 ∷ 115 ∷ 115 ∷ 115 ∷ 115 ∷ 82 ∷ []
+
+abbrev pub numbers : Told → List ℕ
+numbers t =
+    coded 0 (t .travel 0) ∷ coded 1 (t .travel 1) ∷ coded 2 (t .travel 2) ∷ coded 3 (t .travel 3)
+    ∷ coded 4 (t .travel 4)
+    ∷ coded 6 (t .status)
+    ∷ coded 0 (t .position 0) ∷ coded 1 (t .position 1) ∷ coded 2 (t .position 2) ∷ coded 3 (t .position 3)
+    ∷ coded 4 (t .position 4) ∷ t .inputs ∷ []
+
+-- P: U with 000000. Q readings: S, code, the latest move's minus bit with travel, or status. Other Q: S echoing the
+-- digits, absent ones 0. q: s, code, position; q 8 everything. W: R with the last tick's inputs.
+abbrev pub answerOf : Told → Command → ℕ → Answer
+answerOf t (C.Distance k minus d) digits = One 85 0
+answerOf t (C.Speed v) digits = One 85 0
+answerOf t (C.Slope v) digits = One 85 0
+answerOf t (C.Dwell v) digits = One 85 0
+answerOf t (C.Watch v) digits = One 85 0
+answerOf t (C.Polarity v) digits = One 85 0
+answerOf t (C.Travel k) digits = One 83 (coded k (t .travel k))
+answerOf t C.Status digits = One 83 (coded 6 (t .status))
+answerOf t (C.Start k waits) digits = One 83 digits
+answerOf t C.Stop digits = One 83 digits
+answerOf t C.ClearWrongMaster digits = One 83 digits
+answerOf t C.ResetPositions digits = One 83 digits
+answerOf t (C.LowOn v) digits = One 83 digits
+answerOf t (C.HighOn v) digits = One 83 digits
+answerOf t (C.Position k) digits = One 115 (coded k (t .position k))
+answerOf t C.Everything digits = All
+answerOf t C.Inputs digits = One 82 (t .inputs)
+answerOf t (C.Outputs v) digits = One 82 (t .inputs)
+
+-- The bytes of an answer.
+abbrev pub bytesOf : Told → Answer → Ident → List ℕ
+bytesOf t (One letter number) ident = blockFor (t .switch) letter number ident
+bytesOf t All ident = rowOf 12 letters (numbers t) (t .switch) ident
+
+-- The reply to a command with these six digits and this identification.
+unfoldable pub replyOf : Told → Command → ℕ → Ident → List ℕ
+replyOf t c digits ident = bytesOf t (answerOf t c digits) ident
+
+-- A turned-away line answers U 0000nn, nn its number, with the line's identification from 8 on and none for 4 to 7.
+abbrev pub refusalIdent : ℕ → Ident → Ident
+refusalIdent n ident = cond (ltb n 8) Absent ident
+
+unfoldable pub refusalOf : ℕ → ℕ → Ident → List ℕ
+refusalOf switch n ident = blockFor switch 85 n (refusalIdent n ident)
+
+-- The five digits of a travel: the minus bit, then 19 bits.
+abbrev pub travelDigits : Bool → ℕ → ℕ
+travelDigits minus travel = weight minus 524288 + travel
+
+-- A position in 20-bit two's complement.
+abbrev pub twenty : ℤ → ℕ
+twenty (pos n) = n % 1048576
+twenty (negsuc n) = 1048575 - n % 1048576
+
+-- ---- How a travel and a position are held, for every value of them.
+
+-- A position is held with 524,288 added.
+abbrev pub bias : ℤ → ℕ
+bias (pos n) = n + 524288
+bias (negsuc n) = 524287 - n
+
+-- The position that is held so.
+abbrev pub positionOf : Position → ℤ
+positionOf p = pos (p .0) +ℤ negsuc 524287
+
+-- What readings tell: of a travel its low 19 bits.
+abbrev pub toldBy : Readings → Told
+toldBy r = record {
+  switch = r .switch;
+  travel = λ k. travelDigits (getD (r .minus) k false) (getD (r .travels) k (record { 0 = 0 }) .0 % 524288);
+  position = λ k. twenty (positionOf (getD (r .positions) k (record { 0 = 0 })));
+  status = r .status;
+  inputs = r .inputs;
+}
+
+-- ---- A command that reads an axis's travel or position reads one of the five.
+
+abbrev pub axesFit : Command → Type 0
+axesFit (C.Distance k minus d) = 0 < 1
+axesFit (C.Speed v) = 0 < 1
+axesFit (C.Slope v) = 0 < 1
+axesFit (C.Dwell v) = 0 < 1
+axesFit (C.Watch v) = 0 < 1
+axesFit (C.Polarity v) = 0 < 1
+axesFit (C.Travel k) = k < 5
+axesFit C.Status = 0 < 1
+axesFit (C.Start k waits) = 0 < 1
+axesFit C.Stop = 0 < 1
+axesFit C.ClearWrongMaster = 0 < 1
+axesFit C.ResetPositions = 0 < 1
+axesFit (C.LowOn v) = 0 < 1
+axesFit (C.HighOn v) = 0 < 1
+axesFit (C.Position k) = k < 5
+axesFit C.Everything = 0 < 1
+axesFit C.Inputs = 0 < 1
+axesFit (C.Outputs v) = 0 < 1
