@@ -1,4 +1,5 @@
--- Lines: what they do to a held machine is the held machine's step, and so are their numbers and replies. Assumes nothing.
+-- Lines: what they do to a held machine is the held machine's step, and so are their numbers and replies. Assumes
+-- nothing.
 use Prim.Native.Nat.{ℕ, _+_, _-_, _%_, _≤_, _<_}
 use mathlib.Core.Bool.{Bool, true, false, cond, not, _&&_, _||_}
 use mathlib.Core.List.{List, []}
@@ -120,7 +121,8 @@ pub turned-is : (m : Machine) (n : ℕ) → turnedOf (held m) n ≡ held (turned
 turned-is m n = when (ltb n 10) refl
   where
     when : (t : Bool) → ltb n 10 ≡ t
-        → cond t (held m) (withHot (held m) (turnedBy (heldHot m) (m .flags .wrongMaster || eqb n 14))) ≡ held (turned m n)
+        → cond t (held m) (withHot (held m) (turnedBy (heldHot m) (m .flags .wrongMaster || eqb n 14))) ≡ held
+        (turned m n)
     when true e = ap (λ (b : Bool). held (cond b (notes (withWatch m 0) n) m)) (sym (lt-leb 10 n (ltb-true n 10 e)))
     when false e = ap (λ (b : Bool). held (cond b (notes (withWatch m 0) n) m)) (sym (le-leb 10 n (ltb-false n 10 e)))
 
@@ -144,7 +146,8 @@ number-is m (C.Polarity v) f h = own-number (m .move .moving) 0
 number-is m (C.Travel k) f h = no-number (m .move .moving)
 number-is m C.Status f h = no-number (m .move .moving)
 number-is m (C.Start k w) f h =
-    own-number (m .move .moving) (cond (stores m w) 0 (startOf (heldSettings (m .settings)) (heldPlan (m .next)) (heldHot m) k))
+    own-number (m .move .moving) (cond (stores m w) 0
+    (startOf (heldSettings (m .settings)) (heldPlan (m .next)) (heldHot m) k))
     ∙ ap (λ (n : ℕ). cond (m .move .moving && true) 11 (cond (stores m w) 0 n)) (start-is m k h f)
 number-is m C.Stop f h = no-number (m .move .moving)
 number-is m C.ClearWrongMaster f h = no-number (m .move .moving)
@@ -164,7 +167,8 @@ unbiased (pos n) h =
     by-lt (λ (x : ℤ). x ≡ pos n) (n + 524288) 524288 _ _ (λ q. absurd (omega arith)) (λ q. ap pos (omega arith))
 unbiased (negsuc n) h =
     let k = ltb-false 524287 n h in
-    by-lt (λ (x : ℤ). x ≡ negsuc n) (524287 - n) 524288 _ _ (λ q. ap negsuc (omega (arith, k))) (λ q. absurd (omega (arith, k)))
+    by-lt (λ (x : ℤ). x ≡ negsuc n) (524287 - n) 524288 _ _ (λ q. ap negsuc (omega (arith, k)))
+    (λ q. absurd (omega (arith, k)))
 
 pub status-is : (m : Machine) → statusOf (held m) ≡ status m
 status-is m = when (m .move .moving)
@@ -200,7 +204,8 @@ commands-fit (C.Outputs v) h = omega arith
 pub reply-is : (m : Machine) (c : Command) (digits : ℕ) (ident : Ident) → Fits m → CommandFits c
     → replyOf (toldBy (readingsOf (held m))) c digits ident ≡ machine.replyTo m c digits ident
 reply-is m c digits ident f h =
-    reply-same (toldBy (readingsOf (held m))) (toldOf m) refl travels positions (status-is m) refl c (commands-fit c h) digits ident
+    reply-same (toldBy (readingsOf (held m))) (toldOf m) refl travels positions (status-is m) refl c
+    (commands-fit c h) digits ident
   where
     travels : (k : ℕ) → k < 5 → toldBy (readingsOf (held m)) .travel k ≡ toldOf m .travel k
     travels k l = λ i. travelDigits (each-at (m .move .plan .minus) false k l i)
@@ -212,5 +217,6 @@ reply-is m c digits ident f h =
 
     positions : (k : ℕ) → k < 5 → toldBy (readingsOf (held m)) .position k ≡ toldOf m .position k
     positions k l =
-        ap (λ (p : Position). twenty (pos (p .0) +ℤ negsuc 524287)) (each-at (λ j. record { 0 = bias (m .position j) }) (record { 0 = 0 }) k l)
+        ap (λ (p : Position). twenty (pos (p .0) +ℤ negsuc 524287))
+        (each-at (λ j. record { 0 = bias (m .position j) }) (record { 0 = 0 }) k l)
         ∙ ap twenty (unbiased (m .position k) (f .places .inside k l))

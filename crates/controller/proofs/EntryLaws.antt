@@ -131,7 +131,8 @@ module _ (m : Machine) (w : ℕ) (f : Fits m) (self : Controller) (e : held m �
       → waited ≡ waitsOf (self .cold .settings) (self .cold .next) (self .cold .switch) taken
       → waited ≡ record { hot = heldHot (looks m w); number = failure (tries (takes m w)) }
   waited-is taken waited p q =
-      q ∙ ((λ i. waitsOf (sym e i .cold .settings) (sym e i .cold .next) (sym e i .cold .switch) (p i)) ∙ looks-is m w f)
+      q ∙ ((λ i. waitsOf (sym e i .cold .settings) (sym e i .cold .next) (sym e i .cold .switch) (p i)) ∙ looks-is m w
+      f)
 
   pub stop-is : (waited : Waited) (stopped : Hot)
       → waited ≡ record { hot = heldHot (looks m w); number = failure (tries (takes m w)) }
@@ -150,7 +151,8 @@ module _ (m : Machine) (w : ℕ) (f : Fits m) (self : Controller) (e : held m �
       q ∙ ((λ i. runsOf (sym e i .cold .settings) (p i)) ∙ ran-is m w f)
 
   pub run-wires : (ran : Ran) → ran ≡ heldRan (runs (stops (looks m w))) → WiresFit (ran .hot .wires)
-  run-wires ran q = subst (λ (r : Ran). WiresFit (r .hot .wires)) (sym q) (wires-fit (runs (stops (looks m w)) .machine))
+  run-wires ran q = subst (λ (r : Ran). WiresFit (r .hot .wires)) (sym q)
+      (wires-fit (runs (stops (looks m w)) .machine))
 
   pub tick-is : (waited : Waited) (ran : Ran) (second : ℕ) → w ≤ 16777215
       → waited ≡ record { hot = heldHot (looks m w); number = failure (tries (takes m w)) }
@@ -180,15 +182,18 @@ module _ (m : Machine) (w : ℕ) (f : Fits m) (self : Controller) (e : held m �
         number = p i .number;
       })
       (ticked-is m w f))
-      (ap (λ (b : Bool). heldTick (cond b (refusedTick m) (ticked (runs (stops (looks m w))) (failure (tries (takes m w))))))
+      (ap (λ (b : Bool). heldTick (cond b (refusedTick m)
+      (ticked (runs (stops (looks m w))) (failure (tries (takes m w))))))
       (sym (le-ltb 16777215 w h)))
 
   pub tick-refused : 16777215 < w
-      → _≡_ {A = TickAnswer} (record { controller = self; first = 0; second = 0; pulses = each (λ k. pos 0); number = 3 })
+      → _≡_ {A = TickAnswer} (record
+      { controller = self; first = 0; second = 0; pulses = each (λ k. pos 0); number = 3 })
       (heldTick (tickStep m w))
   tick-refused h =
       (λ i. record { controller = sym e i; first = 0; second = 0; pulses = each (λ (k : ℕ). pos 0); number = 3 })
-      ∙ ap (λ (b : Bool). heldTick (cond b (refusedTick m) (ticked (runs (stops (looks m w))) (failure (tries (takes m w))))))
+      ∙ ap (λ (b : Bool). heldTick (cond b (refusedTick m)
+      (ticked (runs (stops (looks m w))) (failure (tries (takes m w))))))
       (sym (lt-ltb 16777215 w h))
 
 -- ---- A byte
@@ -252,9 +257,11 @@ lined-answer m b silent ident (Refused n) f h = (
 )
 lined-answer m b silent ident (Accepted c digits) f h =
     subst (λ (n : ℕ).
-    (cond (eqb n 0) (obeyedOf (held (heardBy m b)) silent ident c digits) (refusedOf (held (heardBy m b)) silent ident n)
+    (cond (eqb n 0) (obeyedOf (held (heardBy m b)) silent ident c digits)
+    (refusedOf (held (heardBy m b)) silent ident n)
     ≡ heldByte (answered m b (decided m silent ident (Accepted c digits))))
-    × (cond (eqb n 0) (replyTo (held (heardBy m b)) silent ident c digits) (refusalTo (held (heardBy m b)) silent ident n)
+    × (cond (eqb n 0) (replyTo (held (heardBy m b)) silent ident c digits)
+    (refusalTo (held (heardBy m b)) silent ident n)
     ≡ answered m b (decided m silent ident (Accepted c digits)) .reply))
     (sym (number-is (heardBy m b) c f (h .command) ∙ number-heard m b c))
     (by (eqb (number m c) 0))
@@ -264,9 +271,11 @@ lined-answer m b silent ident (Accepted c digits) f h =
     told t = ap (λ (x : List ℕ). cond t [] x) (reply-is (heardBy m b) c digits ident f (h .command))
 
     by : (t : Bool)
-        → (cond t (obeyedOf (held (heardBy m b)) silent ident c digits) (refusedOf (held (heardBy m b)) silent ident (number m c))
+        → (cond t (obeyedOf (held (heardBy m b)) silent ident c digits)
+        (refusedOf (held (heardBy m b)) silent ident (number m c))
         ≡ heldByte (answered m b (cond t (accepted c digits silent ident) (refused (number m c) silent ident))))
-        × (cond t (replyTo (held (heardBy m b)) silent ident c digits) (refusalTo (held (heardBy m b)) silent ident (number m c))
+        × (cond t (replyTo (held (heardBy m b)) silent ident c digits)
+        (refusalTo (held (heardBy m b)) silent ident (number m c))
         ≡ answered m b (cond t (accepted c digits silent ident) (refused (number m c) silent ident)) .reply)
     by true = (
       (λ i. record {
@@ -319,7 +328,8 @@ module _ (m : Machine) (b : ℕ) (d : List ℕ) (f : Fits m) (self : Controller)
         → (_≡_ {A = ByteAnswer} (record { controller = c; length = 0; number = 0 }) (heldByte (byteStep m b d)))
         × (d ≡ bufferAfter (byteStep m b d) d)
     byte-gathered k =
-        given _ d (subst (λ (y : Heard). Given m b (record { controller = c; length = 0; number = 0 }) d d (outcomeOf m y)) (sym k)
+        given _ d (subst (λ (y : Heard). Given m b (record { controller = c; length = 0; number = 0 }) d d
+        (outcomeOf m y)) (sym k)
         ((λ i. record { controller = heard-is i; length = 0; number = 0 }), sym (over-nil d)))
 
     pub byte-judged : (silent : Bool) (ident : Ident) (j : Judged) → taken .heard ≡ Line silent ident j → JudgedFits j
@@ -333,5 +343,6 @@ module _ (m : Machine) (b : ℕ) (d : List ℕ) (f : Fits m) (self : Controller)
         let a = lined-answer m b silent ident j (heard-fit m b f) (byte-judged silent ident j k) in
         given r x (subst (λ (y : Heard). Given m b r x d (outcomeOf m y)) (sym k) (
           u ∙ (ap (λ (y : Controller). linedOf y silent ident j) heard-is ∙ a .0),
-          v ∙ (ap (λ (y : Controller). over (lineReply y silent ident j) d) heard-is ∙ ap (λ (y : List ℕ). over y d) (a .1)),
+          v ∙ (ap (λ (y : Controller). over (lineReply y silent ident j) d) heard-is ∙ ap (λ (y : List ℕ). over y d)
+              (a .1)),
         ))

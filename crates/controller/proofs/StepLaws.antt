@@ -19,7 +19,18 @@ use Rattle.controller.specs.declared.motion.Share.{Share}
 use Rattle.controller.specs.declared.motion.Axis.{Axis}
 use Rattle.controller.specs.declared.motion.Ran.{Ran}
 use Rattle.controller.specs.declared.hot.Hot.{Hot}
-use Rattle.controller.specs.Inner.{shareOf, axisBy, axisIn, pulseOf, wordBy, endedOf, steppedOf, pulsedBy, pulsedOf, causeOf}
+use Rattle.controller.specs.Inner.{
+  shareOf,
+  axisBy,
+  axisIn,
+  pulseOf,
+  wordBy,
+  endedOf,
+  steppedOf,
+  pulsedBy,
+  pulsedOf,
+  causeOf,
+}
 
 pub mod-once : (n m : ℕ) → m ≤ n → n < m + m → n - m ≡ n % m
 mod-once n m h k =
@@ -95,7 +106,9 @@ pulsed-is h dwell speed phase a b c d e hot w z0 z1 z2 z3 z4 eh ew e0 e1 e2 e3 e
     (λ i. record {
       hot = eh i;
       first = ew i;
-      pulses = pulse-bits z0 (a .on) (getD (h .plan .minus) 0 false) e0 i ∷ pulse-bits z1 (b .on) (getD (h .plan .minus) 1 false) e1 i ∷ pulse-bits z2 (c .on) (getD (h .plan .minus) 2 false) e2 i ∷ pulse-bits z3 (d .on) (getD (h .plan .minus) 3 false) e3 i
+      pulses = pulse-bits z0 (a .on) (getD (h .plan .minus) 0 false) e0 i ∷ pulse-bits z1 (b .on)
+          (getD (h .plan .minus) 1 false) e1 i ∷ pulse-bits z2 (c .on) (getD (h .plan .minus) 2 false) e2 i ∷ pulse-bits
+          z3 (d .on) (getD (h .plan .minus) 3 false) e3 i
           ∷ pulse-bits z4 (e .on) (getD (h .plan .minus) 4 false) e4 i ∷ [];
     })
     (λ i. pulsedBy h dwell speed phase (ea i) (eb i) (ec i) (ed i) (ee i))

@@ -50,18 +50,21 @@ module _ (c : Controller) (ident : Ident) (d : List ℕ) where
         → Answers (record { controller = t; length = 0; number = 0 }) d (obeyedOf c silent ident command digits)
         (replyTo c silent ident command digits) d
     obey-silent silent t s e =
-        subst (λ (b : Bool). Answers (record { controller = t; length = 0; number = 0 }) d (obeyedOf c b ident command digits)
+        subst (λ (b : Bool). Answers (record { controller = t; length = 0; number = 0 }) d
+        (obeyedOf c b ident command digits)
         (replyTo c b ident command digits) d) (sym s)
         ((λ i. record { controller = e i; length = 0; number = 0 }), sym (over-nil d))
 
-    pub obey-told : (silent : Bool) (t : Controller) (r : Readings) (l : ℕ) (x : List ℕ) → 120 ≤ length d → silent ≡ false
+    pub obey-told : (silent : Bool) (t : Controller) (r : Readings) (l : ℕ) (x : List ℕ) → 120 ≤ length d → silent ≡
+        false
         → t ≡ zeroed (doesOf c command) → r ≡ readingsOf c
         → l ≡ laidLength 0 (replyOf (toldBy r) command digits ident) d
         → x ≡ laid 0 (replyOf (toldBy r) command digits ident) d
         → Answers (record { controller = t; length = l; number = 0 }) x (obeyedOf c silent ident command digits)
         (replyTo c silent ident command digits) d
     obey-told silent t r l x h s e k p q =
-        subst (λ (b : Bool). Answers (record { controller = t; length = l; number = 0 }) x (obeyedOf c b ident command digits)
+        subst (λ (b : Bool). Answers (record { controller = t; length = l; number = 0 }) x
+        (obeyedOf c b ident command digits)
         (replyTo c b ident command digits) d) (sym s) (
           (λ i. record {
             controller = e i;

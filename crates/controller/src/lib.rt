@@ -1,6 +1,7 @@
-// The blending controller (paper 01): power-on, a received byte with its lent reply buffer, a tick with its input word.
-// Its fields are private, so that only power-on and calls can make one. Each entry's answer is the machine's of the crate
-// `machine`, held as specs/Held.antt says; the only premise is that the controller is reachable. Assumes nothing.
+// The blending controller (paper 01): power-on, a received byte with its lent reply buffer, a tick with its input
+// word. Its fields are private, so that only power-on and calls can make one. Each entry's answer is the machine's of
+// the crate `machine`, held as specs/Held.antt says; the only premise is that the controller is reachable. Assumes
+// nothing.
 ghost use mathlib.Core.Path.{_≡_};
 ghost use Rattle.laws.specs.Axes.{each};
 ghost use Rattle.machine.specs.Demand.{Demand3};
@@ -50,16 +51,16 @@ pub struct PowerOn {
     pub number: u8,
 }
 
-// What a byte answers: the next controller, the length of the reply in the lent buffer, and the number that turned the byte
-// or its line away, told of silent lines too; 0 where nothing was.
+// What a byte answers: the next controller, the length of the reply in the lent buffer, and the number that turned
+// the byte or its line away, told of silent lines too; 0 where nothing was.
 pub struct ByteAnswer {
     pub controller: Controller,
     pub length: usize,
     pub number: u8,
 }
 
-// What a tick answers: the next controller, the five pulses (-1, 0, 1), the output words of its two halves, and the number
-// of a waiting start that failed, or 3, or 0.
+// What a tick answers: the next controller, the five pulses (-1, 0, 1), the output words of its two halves, and the
+// number of a waiting start that failed, or 3, or 0.
 pub struct TickAnswer {
     pub controller: Controller,
     pub first: u32,
@@ -143,8 +144,8 @@ fn fresh(switch: u8) -> Controller
     Controller { hot, cold }
 }
 
-// Power-on. The theorem about every list of calls, the marked table and a computed list stand here as promises, so that the
-// gate keeps them: they speak of the machine whose held values every entry answers.
+// Power-on. The theorem about every list of calls, the marked table and a computed list stand here as promises, so
+// that the gate keeps them: they speak of the machine whose held values every entry answers.
 pub fn power_on(switch: u8) -> PowerOn
     ensures { λ r. ⌜ r ≡ heldPower switch ⌝ }
     ensures { λ _. ⌜ Demand3 ⌝ }

@@ -168,7 +168,8 @@ six-values : (a b d e f g : ℕ) → a < 16 → b < 16 → d < 16 → e < 16 →
     ≡ capitalOf a ∷ capitalOf b ∷ capitalOf d ∷ capitalOf e ∷ capitalOf f ∷ capitalOf g ∷ []
 unfolding sixOf
 six-values a b d e f g ha hb hd he hf hg =
-    λ i. capitalOf (p1 i) ∷ capitalOf (p2 i) ∷ capitalOf (p3 i) ∷ capitalOf (p4 i) ∷ capitalOf (p5 i) ∷ capitalOf (p6 i) ∷ []
+    λ i. capitalOf (p1 i) ∷ capitalOf (p2 i) ∷ capitalOf (p3 i) ∷ capitalOf (p4 i) ∷ capitalOf (p5 i) ∷ capitalOf
+    (p6 i) ∷ []
   where
     p6 : (((((a * 16 + b) * 16 + d) * 16 + e) * 16 + f) * 16 + g) % 16 ≡ g
     p6 = omega arith
@@ -240,4 +241,6 @@ under-six c1 c2 c3 c4 c5 c6 =
     let n3 = joinOf n2 c3 in
     let n4 = joinOf n3 c4 in
     let n5 = joinOf n4 c5 in
-    under-join 1048576 n5 c6 (under-join 65536 n4 c5 (under-join 4096 n3 c4 (under-join 256 n2 c3 (under-join 16 n1 c2 (under-join 1 (Value 0 false) c1 (omega arith))))))
+    under-join 1048576 n5 c6 (under-join 65536 n4 c5
+    (under-join 4096 n3 c4 (under-join 256 n2 c3
+    (under-join 16 n1 c2 (under-join 1 (Value 0 false) c1 (omega arith))))))

@@ -4,7 +4,20 @@ use Prim.Native.Nat.{ℕ, _≤_, _<_}
 use mathlib.Core.Bool.{Bool, true, false, not, cond}
 use mathlib.Core.Path.{_≡_, refl, sym, _∙_}
 use lib.Dec.{ltb, leb, eqb}
-use borrow.Author.Tests.{lt-ltb, le-ltb, le-leb, lt-leb, eq-eqb, ne-eqb, ltb-true, ltb-false, leb-true, leb-false, eqb-true, eqb-false}
+use borrow.Author.Tests.{
+  lt-ltb,
+  le-ltb,
+  le-leb,
+  lt-leb,
+  eq-eqb,
+  ne-eqb,
+  ltb-true,
+  ltb-false,
+  leb-true,
+  leb-false,
+  eqb-true,
+  eqb-false,
+}
 
 pub on-true : {A : Type 0} (t : Bool) (r x y : A) → t ≡ true → r ≡ x → r ≡ cond t x y
 on-true t r x y e p = rw e p

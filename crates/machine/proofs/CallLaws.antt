@@ -353,7 +353,8 @@ called-accepted m b (C.Start k w) g e = when (stores m w) refl
 
     when : (t : Bool) → stores m w ≡ t
         → Called m (startLine k w) (cond t untried (began k)) false false (λ j. pos 0)
-        (withWatch (cond t (withPause (heardBy m b) (record { left = m .pause .left; waiting = start k })) (begun (heardBy m b) k)) 0)
+        (withWatch (cond t (withPause (heardBy m b) (record { left = m .pause .left; waiting = start k }))
+        (begun (heardBy m b) k)) 0)
     when true f = called-stored m _ k w g (record { next = refl; move = refl; position = refl })
     when false f =
         called-start m k w _
@@ -384,7 +385,8 @@ abbrev pub Byte : Machine → ℕ → Outcome → Type 0
 Byte m b o =
     Called m (roleBy o) (startBy m (roleBy o)) (stopBy m (roleBy o)) false (λ k. pos 0) (answered m b o .machine)
 
-called-refused : (m : Machine) (b n : ℕ) (silent : Bool) (ident : Ident) → Good (m .move) → Byte m b (refused n silent ident)
+called-refused : (m : Machine) (b n : ℕ) (silent : Bool) (ident : Ident) → Good (m .move) → Byte m b
+    (refused n silent ident)
 called-refused m b n silent ident g = when (leb 10 n)
   where
     when : (t : Bool) → Called m other untried false false (λ k. pos 0)
@@ -509,7 +511,8 @@ start-minus untried p v k = refl
 start-minus (failed n) p v k = refl
 start-minus (began j) p v k = refl
 
-start-master : (S : Tried) (p : Plan) (v : Move) → atStart S (λ j. newMove p j) v .master ≡ atStart S (λ j. j) (v .master)
+start-master : (S : Tried) (p : Plan) (v : Move) → atStart S (λ j. newMove p j) v .master ≡ atStart S (λ j. j)
+    (v .master)
 start-master untried p v = refl
 start-master (failed n) p v = refl
 start-master (began j) p v = refl
@@ -587,7 +590,8 @@ pub called-tick : (m : Machine) (w : ℕ) → Good (m .move)
     → Called m other (takesEffect m (tick w)) (stopsIn m (tick w)) true (sent m (tick w)) (after m (tick w))
 called-tick m w g = when (tooLarge w)
   where
-    goes : Called m other (tries (takes m w)) (cause (looks m w)) true (runs (stops (looks m w)) .pulse) (runs (stops (looks m w)) .machine)
+    goes : Called m other (tries (takes m w)) (cause (looks m w)) true (runs (stops (looks m w)) .pulse)
+        (runs (stops (looks m w)) .machine)
     goes =
         let lk = looked m (takes m w) g (record { next = refl; move = refl; position = refl }) in
         let st = stopped-is (looks m w) (lk .good) in

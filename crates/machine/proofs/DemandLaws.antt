@@ -86,7 +86,8 @@ told-none s = record {
   rest = λ q. true-false false q refl;
 }
 
-same-start : {A : Type 0} (S : Tried) (f g : ℕ → A) (x y : A) → ((j : ℕ) → f j ≡ g j) → x ≡ y → atStart S f x ≡ atStart S g y
+same-start : {A : Type 0} (S : Tried) (f g : ℕ → A) (x y : A) → ((j : ℕ) → f j ≡ g j) → x ≡ y → atStart S f x ≡
+    atStart S g y
 same-start untried f g x y p q = q
 same-start (failed n) f g x y p q = q
 same-start (began j) f g x y p q = p j
@@ -184,7 +185,8 @@ told-next s h x t = record {
         (c .master ∙ old-start (takesEffect (state s h) x) _ _ b) ∙ kept b (state s h .move .master)
 
     unstopped : begins (takesEffect (state s h) x) ≡ false
-        → stopsIn (state s h) x || (not (begins (takesEffect (state s h) x)) && stopBegun s h) ≡ false → stopBegun s h ≡ false
+        → stopsIn (state s h) x || (not (begins (takesEffect (state s h) x)) && stopBegun s h) ≡ false → stopBegun s
+        h ≡ false
     unstopped b f =
         let n = or-none (stopsIn (state s h) x) _ f in
         subst (λ (w : Bool). not w && stopBegun s h ≡ false) b (n .1)
@@ -207,7 +209,8 @@ module _ (s : ℕ) (h : List Call) (t : Told s h) where
       let a : Share (distance s h k) (whole s h) (gone s h) (travel s h k) =
       subst (λ (d : ℕ). Share d (whole s h) (gone s h) (travel s h k)) (t .distances k)
       (subst (λ (n : ℕ). Share (state s h .move .plan .distance k) n (gone s h) (travel s h k)) same-whole
-      (subst (λ (n : ℕ). Share (state s h .move .plan .distance k) (shares.whole (state s h .move)) n (travel s h k)) same-gone
+      (subst (λ (n : ℕ). Share (state s h .move .plan .distance k) (shares.whole (state s h .move)) n (travel s h k))
+      same-gone
       (t .good .axis k l))) in
       let p : 0 < whole s h = subst (λ (n : ℕ). 0 < n) same-whole (t .positive b) in
       record {

@@ -1,4 +1,5 @@
--- What every machine that calls make keeps: settings, distances, speed and phase in range, positions in range with room for
+-- What every machine that calls make keeps: settings, distances, speed and phase in range, positions in range with
+-- room for
 -- what is left of a running move. Assumes nothing.
 use Prim.Native.Nat.{ℕ, _+_, _-_, _*_, _/_, _≤_, _<_, min, max}
 use mathlib.Core.Bool.{Bool, true, false, cond, not, _&&_, _||_}
@@ -410,7 +411,8 @@ fits-runs m f =
 pub fits-tick : (m : Machine) (w : ℕ) → Fits m → Fits (tickStep m w .machine)
 fits-tick m w f = when (tooLarge w)
   where
-    when : (t : Bool) → Fits (cond t (refusedTick m) (ticked (runs (stops (looks m w))) (failure (tries (takes m w)))) .machine)
+    when : (t : Bool) → Fits (cond t (refusedTick m)
+        (ticked (runs (stops (looks m w))) (failure (tries (takes m w)))) .machine)
     when true = f
     when false = fits-runs (stops (looks m w)) (fits-stops (looks m w) (fits-looks m w f))
 
@@ -446,7 +448,8 @@ pub fits-does : (m : Machine) (b : ℕ) (c : Command) → Fits m → CommandFits
     → Fits (withWatch (does (heardBy m b) c) 0)
 fits-does m b (C.Distance k s d) f h e = record {
   settings = f .settings;
-  next = λ j l. by-bool (λ (x : ℕ). x ≤ 524287) (eqb j k) _ _ (λ q. let r = h .1 in omega (arith, r)) (λ q. f .next j l);
+  next = λ j l. by-bool (λ (x : ℕ). x ≤ 524287) (eqb j k) _ _ (λ q. let r = h .1 in omega (arith, r))
+      (λ q. f .next j l);
   move = f .move;
   places = f .places;
   pause = f .pause;
@@ -458,9 +461,11 @@ fits-does m b (C.Slope v) f h e =
 fits-does m b (C.Dwell v) f h e =
     fits-set m _ f (record { speed = f .settings .speed; slope = f .settings .slope; dwell = h }) refl refl refl refl
 fits-does m b (C.Watch v) f h e =
-    fits-set m _ f (record { speed = f .settings .speed; slope = f .settings .slope; dwell = f .settings .dwell }) refl refl refl refl
+    fits-set m _ f (record { speed = f .settings .speed; slope = f .settings .slope; dwell = f .settings .dwell })
+    refl refl refl refl
 fits-does m b (C.Polarity v) f h e =
-    fits-set m _ f (record { speed = f .settings .speed; slope = f .settings .slope; dwell = f .settings .dwell }) refl refl refl refl
+    fits-set m _ f (record { speed = f .settings .speed; slope = f .settings .slope; dwell = f .settings .dwell })
+    refl refl refl refl
 fits-does m b (C.Travel k) f h e = fits-same m _ f refl refl refl refl refl
 fits-does m b C.Status f h e = fits-same m _ f refl refl refl refl refl
 fits-does m b (C.Start k w) f h e = when (stores m w) refl
@@ -469,7 +474,8 @@ fits-does m b (C.Start k w) f h e = when (stores m w) refl
     p11 = passed (m .move .moving && true) 11 _ (omega arith) e
 
     when : (t : Bool) → stores m w ≡ t
-        → Fits (withWatch (cond t (withPause (heardBy m b) (record { left = m .pause .left; waiting = start k })) (begun (heardBy m b) k)) 0)
+        → Fits (withWatch (cond t (withPause (heardBy m b) (record { left = m .pause .left; waiting = start k }))
+        (begun (heardBy m b) k)) 0)
     when true q = record {
       settings = f .settings;
       next = f .next;
@@ -496,14 +502,17 @@ fits-does m b C.ResetPositions f h e = record {
   move = f .move;
   places = record {
     inside = λ k l. refl;
-    room = λ q k l. reset-room (m .move .plan .minus k) (m .move .plan .distance k) (m .move .travel k) (f .move .plan k l);
+    room = λ q k l. reset-room (m .move .plan .minus k) (m .move .plan .distance k) (m .move .travel k)
+        (f .move .plan k l);
   };
   pause = f .pause;
 }
 fits-does m b (C.LowOn v) f h e =
-    fits-set m _ f (record { speed = f .settings .speed; slope = f .settings .slope; dwell = f .settings .dwell }) refl refl refl refl
+    fits-set m _ f (record { speed = f .settings .speed; slope = f .settings .slope; dwell = f .settings .dwell })
+    refl refl refl refl
 fits-does m b (C.HighOn v) f h e =
-    fits-set m _ f (record { speed = f .settings .speed; slope = f .settings .slope; dwell = f .settings .dwell }) refl refl refl refl
+    fits-set m _ f (record { speed = f .settings .speed; slope = f .settings .slope; dwell = f .settings .dwell })
+    refl refl refl refl
 fits-does m b (C.Position k) f h e = fits-same m _ f refl refl refl refl refl
 fits-does m b C.Everything f h e = fits-same m _ f refl refl refl refl refl
 fits-does m b C.Inputs f h e = fits-same m _ f refl refl refl refl refl

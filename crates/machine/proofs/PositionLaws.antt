@@ -29,7 +29,8 @@ up (negsuc n) d h k =
     (λ l. record { inside = le-ltb 524287 (d - suc n) (omega (arith, q)); held = omega (arith, q) })
 
 down : (z : ℤ) (d : ℕ) → outside z ≡ false → d ≤ bias z → Lies (z +ℤ negℤ (pos d)) (bias z - d)
-down (pos n) zero h k = record { inside = le-ltb 524287 (n + 0) (let q = ltb-false 524287 n h in omega (arith, q)); held = omega arith }
+down (pos n) zero h k = record
+    { inside = le-ltb 524287 (n + 0) (let q = ltb-false 524287 n h in omega (arith, q)); held = omega arith }
 down (pos n) (suc d) h k =
     let q = ltb-false 524287 n h in
     by-lt (λ (x : ℤ). Lies x (n + 524288 - suc d)) n (suc d) _ _

@@ -1,5 +1,5 @@
--- What a tick's ramp does to the latest move, for each of its ends: rest, the end of a stop, a turn with no pulse, a master
--- pulse. Assumes nothing.
+-- What a tick's ramp does to the latest move, for each of its ends: rest, the end of a stop, a turn with no pulse, a
+-- master pulse. Assumes nothing.
 use Prim.Native.Nat.{ℕ, _+_, _-_, _*_, _/_, _≤_, _<_}
 use mathlib.Core.Bool.{Bool, true, false, cond, not, _&&_}
 use mathlib.Core.Path.{_≡_, refl, sym, ap, subst, _∙_}
@@ -85,7 +85,11 @@ module _ (m : Machine) (g : Good (m .move)) where
 
   pub runs-halt : m .move .moving ≡ true → m .move .stopping ≡ true → Runs m (λ k. pos 0) (ended m)
   runs-halt e f = record {
-    good = record { axis = g .axis; under = λ q. absurd (let z : _≡_ {A = ℕ} 0 1 = ap (λ (b : Bool). cond b 1 0) q in omega arith) };
+    good = record {
+      axis = g .axis;
+      under = λ q. absurd
+          (let z : _≡_ {A = ℕ} 0 1 = ap (λ (b : Bool). cond b 1 0) q in omega arith);
+    };
     plan = refl;
     master = refl;
     next = refl;
@@ -122,7 +126,8 @@ module _ (m : Machine) (g : Good (m .move)) where
     positive = let h = g .under e in omega (arith, h)
 
     pub step-share : (k : ℕ) → k < 5
-        → Share (m .move .plan .distance k) (whole (m .move)) (gone (m .move) + 1) (share (m .move) (gone (m .move) + 1) k)
+        → Share (m .move .plan .distance k) (whole (m .move)) (gone (m .move) + 1)
+        (share (m .move) (gone (m .move) + 1) k)
     step-share k h = share-next _ _ _ (m .move .travel k) positive (g .axis k h)
 
     -- The master's own share is its travel.
@@ -133,13 +138,15 @@ module _ (m : Machine) (g : Good (m .move)) where
         → Share (m .move .plan .distance k) (whole (m .move)) (share (m .move) (gone (m .move) + 1) (m .move .master))
         (share (m .move) (gone (m .move) + 1) k)
     step-axis k h =
-        subst (λ (n : ℕ). Share (m .move .plan .distance k) (whole (m .move)) n (share (m .move) (gone (m .move) + 1) k))
+        subst (λ (n : ℕ). Share (m .move .plan .distance k) (whole (m .move)) n
+        (share (m .move) (gone (m .move) + 1) k))
         (sym master-to) (step-share k h)
 
     -- The pulse of an axis, by whether its travel grows.
     pub step-pulse : (k : ℕ) → k < 5
         → pulse (m .move) (gone (m .move) + 1) k
-        ≡ cond (ltb (m .move .travel k) (share (m .move) (gone (m .move) + 1) k)) (directed (m .move .plan .minus k) 1) (pos 0)
+        ≡ cond (ltb (m .move .travel k) (share (m .move) (gone (m .move) + 1) k))
+        (directed (m .move .plan .minus k) 1) (pos 0)
     step-pulse k h =
         pulse-is (m .move .travel k) (share (m .move) (gone (m .move) + 1) k) (m .move .plan .minus k)
         (share-grows _ _ _ _ positive (g .axis k h)) (share-once _ _ _ _ positive (g .axis k h))
@@ -205,7 +212,8 @@ module _ (m : Machine) (g : Good (m .move)) where
       ending = λ p q r. record {
         reached = master-to ∙ all;
         there = λ k h. share-whole _ _ _ _ positive (g .axis k h) all;
-        last = λ k h d. ap natAbs (step-pulse k h) ∙ pulse-last (m .move .travel k) (share (m .move) (gone (m .move) + 1) k) (m .move .plan .minus k)
+        last = λ k h d. ap natAbs (step-pulse k h) ∙ pulse-last (m .move .travel k)
+            (share (m .move) (gone (m .move) + 1) k) (m .move .plan .minus k)
             (subst (λ (n : ℕ). m .move .travel k < n) (sym (share-whole _ _ _ _ positive (g .axis k h) all))
             (share-last _ _ _ _ positive (g .axis k h) all d));
       };
@@ -228,7 +236,8 @@ module _ (m : Machine) (g : Good (m .move)) where
   runs-is =
       by-bool (λ (r : Ran). Runs m (r .pulse) (r .machine)) (not (m .move .moving)) _ _
       (λ q. runs-rest (not-true (m .move .moving) q))
-      (λ q. by-bool (λ (r : Ran). Runs m (r .pulse) (r .machine)) (m .move .stopping && leb (m .move .speed) (m .settings .slope)) _ _
+      (λ q. by-bool (λ (r : Ran). Runs m (r .pulse) (r .machine))
+      (m .move .stopping && leb (m .move .speed) (m .settings .slope)) _ _
       (λ s. runs-halt (not-false (m .move .moving) q) (and-first (m .move .stopping) _ s))
       (λ s. runs-on (not-false (m .move .moving) q) (ramped (m .settings) (m .move))
       (m .move .phase + ramped (m .settings) (m .move))))

@@ -1,4 +1,5 @@
--- One axis at one master pulse more, over plain numbers: d its distance, M the master's, m the master's travel, t its own.
+-- One axis at one master pulse more, over plain numbers: d its distance, M the master's, m the master's travel, t
+-- its own.
 -- Assumes nothing.
 use Prim.Native.Nat.{ℕ, _+_, _-_, _*_, _/_, _≤_, _<_}
 use mathlib.Core.Bool.{Bool, true, false, cond, not}

@@ -1,9 +1,9 @@
 -- Paper 01, "The list of demand 3", and demand 3 itself: one claim about every list of calls from power-on.
 --
--- Which lines are accepted, when starts take effect and when stops begin is what the machine of paper 01 does on the list
--- (`outcome`, `takesEffect`, `stopsIn`). Distances, directions and masters are read off the accepted lines, pulses off
--- the answers of ticks; no counter is kept beside them. `travel` and `position` are the figures that the replies to Q 0-4
--- and q 0-4 are made from.
+-- Which lines are accepted, when starts take effect and when stops begin is what the machine of paper 01 does on the
+-- list (`outcome`, `takesEffect`, `stopsIn`). Distances, directions and masters are read off the accepted lines,
+-- pulses off the answers of ticks; no counter is kept beside them. `travel` and `position` are the figures that the
+-- replies to Q 0-4 and q 0-4 are made from.
 use Prim.Native.Nat.{ℕ, _+_, _*_, _≤_, _<_}
 use mathlib.Core.Bool.{Bool, true, false, cond, not, _&&_, _||_}
 use mathlib.Core.List.{List, [], _∷_}
@@ -233,8 +233,8 @@ whole s h = distance s h (master s h)
 
 -- ---- Demand 3
 
--- Once a start has taken effect: t × M ≤ m × d < (t + 1) × M, with d ≤ M and M > 0; and each travel equals the pulses that
--- pump has sent in that move.
+-- Once a start has taken effect: t × M ≤ m × d < (t + 1) × M, with d ≤ M and M > 0; and each travel equals the pulses
+-- that pump has sent in that move.
 pub record ShareLaw (s : ℕ) (h : List Call) (k : ℕ) : Type 0 where
   pub longest : distance s h k ≤ whole s h
   pub positive : 0 < whole s h
@@ -247,8 +247,8 @@ pub record Answer (s : ℕ) (h : List Call) (k : ℕ) : Type 0 where
   pub single : natAbs (latest s h k) ≤ 1
   pub sign : 0 < natAbs (latest s h k) → latest s h k ≡ directed (minus s h k) 1
 
--- At the end of a move in which no stop begins m = M, every pump is at its distance, and all with a distance above 0 send
--- a pulse in that one tick; it is their last, since the travel stays (`stays`).
+-- At the end of a move in which no stop begins m = M, every pump is at its distance, and all with a distance above 0
+-- send a pulse in that one tick; it is their last, since the travel stays (`stays`).
 pub record Ended (s : ℕ) (h : List Call) (k : ℕ) : Type 0 where
   pub full : gone s h ≡ whole s h
   pub there : travel s h k ≡ distance s h k
@@ -263,6 +263,7 @@ pub record Holds (s : ℕ) (h : List Call) (k : ℕ) : Type 0 where
   -- and there it stays until another start takes effect
   pub stays : started s h ≡ true → goesOn s h ≡ false → stopBegun s h ≡ false → travel s h k ≡ distance s h k
 
--- For every switch, every list of calls (each is some list in order of time, read from its end), and each of the five axes.
+-- For every switch, every list of calls (each is some list in order of time, read from its end), and each of the five
+-- axes.
 abbrev pub Demand3 : Type 0
 Demand3 = (s : ℕ) (h : List Call) (k : ℕ) → k < 5 → Holds s h k

@@ -5,6 +5,7 @@ use lib.IntN.{ℤ}
 use Rattle.outputs.specs.Outputs.{wordOf}
 use Rattle.machine.specs.State.{Settings, Plan, Move, Machine}
 
--- The word of the first half (early) or the second, with the pulses p; the direction is the latest move's, plus before any.
+-- The word of the first half (early) or the second, with the pulses p; the direction is the latest move's, plus
+-- before any.
 abbrev pub word : Machine → (ℕ → ℤ) → Bool → ℕ
 word m p early = wordOf (m .switch) (m .settings .polarity) (m .outputs) (m .move .plan .minus) p early

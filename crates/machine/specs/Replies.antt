@@ -16,8 +16,8 @@ travelOf m k = m .move .travel k
 abbrev pub positionOf : Machine → ℕ → ℤ
 positionOf m k = m .position k
 
--- The latest move's minus bit (0 before any) with the travel; position in 20-bit two's complement; status; the last tick's
--- inputs.
+-- The latest move's minus bit (0 before any) with the travel; position in 20-bit two's complement; status; the last
+-- tick's inputs.
 abbrev pub toldOf : Machine → Told
 toldOf m = record {
   switch = m .switch;

@@ -3,7 +3,19 @@ use Prim.Native.Nat.{ℕ}
 use mathlib.Core.Bool.{Bool, true, false, cond, _||_}
 use lib.Dec.{ltb, eqb}
 use lib.IntN.{ℤ, pos, negsuc, _+ℤ_}
-use Rattle.machine.specs.State.{Plan, Move, Waiting, none, start, Pause, Flags, Machine, withMove, withFlags, withPause}
+use Rattle.machine.specs.State.{
+  Plan,
+  Move,
+  Waiting,
+  none,
+  start,
+  Pause,
+  Flags,
+  Machine,
+  withMove,
+  withFlags,
+  withPause,
+}
 use Rattle.laws.specs.Axes.{some, directed}
 use Rattle.machine.specs.Stops.{blocked, sensorActive}
 
@@ -20,8 +32,8 @@ outside (negsuc n) = ltb 524287 n
 abbrev pub final : Machine → ℕ → ℤ
 final m k = m .position k +ℤ directed (m .next .minus k) (m .next .distance k)
 
--- The number that turns a start with this master away: 12 emergency held, 13 sensor active, 14 an axis is longer than the
--- master, 15 master distance 0, 16 an axis blocked, 17 a final position out of range.
+-- The number that turns a start with this master away: 12 emergency held, 13 sensor active, 14 an axis is longer than
+-- the master, 15 master distance 0, 16 an axis blocked, 17 a final position out of range.
 abbrev pub startNumber : Machine → ℕ → ℕ
 startNumber m master =
     turnedBy 12 (m .flags .emergency)

@@ -1,4 +1,5 @@
--- What the machine of paper 01 holds, in the paper's terms. Axes are numbers 0 to 4; what each axis has is a function of it.
+-- What the machine of paper 01 holds, in the paper's terms. Axes are numbers 0 to 4; what each axis has is a function
+-- of it.
 use Prim.Native.Nat.{ℕ}
 use mathlib.Core.Bool.{Bool}
 use mathlib.Core.List.{List}

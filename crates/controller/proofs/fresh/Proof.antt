@@ -1,12 +1,8 @@
+-- `fresh` meets its contract: each return, by the tests and the answers that led there. Assumes nothing.
 use borrow.Author.Needs.{needs}
 use Rattle.controller.specs.Power.{freshWith}
 use Rattle.controller.proofs.fresh.Statement.{statement}
 use Rattle.controller.proofs.fresh.Tie as tie
-use Rattle.controller.proofs.fresh.Reads as reads
-use Rattle.controller.proofs.fresh.Lts as lts
-use Rattle.outputs.proofs.axis_cells.Reads as axis-cells-reads
-use Rattle.outputs.proofs.general.Reads as general-reads
-use Rattle.receiver.proofs.Receiver.new.Reads as new-reads
 
 general-requires : tie.Need-general-requires
 general-requires c κs = search needs
@@ -21,7 +17,8 @@ returns : tie.Need-returns
 returns c =
     let s = c .before .before .before .args .switch in
     let w = c .before .axis-cells in
-    λ i. freshWith s (c .before .before .general .ensures i) (record { rests = w .ensures .0 i; fires = w .ensures .1 i }) (c .new .ensures i)
+    λ i. freshWith s (c .before .before .general .ensures i)
+    (record { rests = w .ensures .0 i; fires = w .ensures .1 i }) (c .new .ensures i)
 
 pub fresh-spec : {M : Type 1} → statement M
 fresh-spec = tie.close (tie.spec general-requires axis-cells-requires new-requires returns)

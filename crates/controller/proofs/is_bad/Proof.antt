@@ -1,8 +1,7 @@
+-- `is_bad` meets its contract: each return, by the tests and the answers that led there. Assumes nothing.
 use borrow.Author.Tests.{lt-ltb, le-ltb}
 use Rattle.controller.proofs.is_bad.Statement.{statement}
 use Rattle.controller.proofs.is_bad.Tie as tie
-use Rattle.controller.proofs.is_bad.Reads as reads
-use Rattle.controller.proofs.is_bad.Lts as lts
 
 returns : tie.Need-returns
 returns c = rw (lt-ltb _ _ (c .if1 .taken))

@@ -1,9 +1,8 @@
+-- `capital` meets its contract: each return, by the tests and the answers that led there. Assumes nothing.
 use borrow.Author.Needs.{needs}
 use Rattle.laws.proofs.Pick.{picks}
 use Rattle.digits.proofs.capital.Statement.{statement}
 use Rattle.digits.proofs.capital.Tie as tie
-use Rattle.digits.proofs.capital.Reads as reads
-use Rattle.digits.proofs.capital.Lts as lts
 
 add-result : tie.Need-add-result
 add-result c = search needs

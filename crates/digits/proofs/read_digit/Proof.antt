@@ -1,9 +1,8 @@
+-- `read_digit` meets its contract: each return, by the tests and the answers that led there. Assumes nothing.
 use borrow.Author.Needs.{needs}
 use Rattle.laws.proofs.Pick.{picks}
 use Rattle.digits.proofs.read_digit.Statement.{statement}
 use Rattle.digits.proofs.read_digit.Tie as tie
-use Rattle.digits.proofs.read_digit.Reads as reads
-use Rattle.digits.proofs.read_digit.Lts as lts
 
 returns : tie.Need-returns
 returns c = search picks depth 9

@@ -1,10 +1,8 @@
+-- `six_capitals` meets its contract: each return, by the tests and the answers that led there. Assumes nothing.
 use borrow.Author.Needs.{needs}
 use Rattle.digits.specs.Digits.{sixOf}
 use Rattle.digits.proofs.six_capitals.Statement.{statement}
 use Rattle.digits.proofs.six_capitals.Tie as tie
-use Rattle.digits.proofs.six_capitals.Reads as reads
-use Rattle.digits.proofs.six_capitals.Lts as lts
-use Rattle.digits.proofs.capital.Reads as capital-reads
 
 cast-capital : tie.Need-cast-capital
 cast-capital c = search needs

@@ -5,8 +5,6 @@ use lib.ListN.{take, length-take}
 use Rattle.line.proofs.Laws.{char-absent, char-held}
 use Rattle.line.proofs.char_at.Statement.{statement}
 use Rattle.line.proofs.char_at.Tie as tie
-use Rattle.line.proofs.char_at.Reads as reads
-use Rattle.line.proofs.char_at.Lts as lts
 
 returns : tie.Need-returns
 returns c =

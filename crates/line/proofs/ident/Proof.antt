@@ -8,9 +8,6 @@ use Rattle.digits.specs.declared.Ident.the-variants.{Given}
 use Rattle.laws.proofs.Pick.{on-eq, on-ne}
 use Rattle.line.proofs.ident.Statement.{statement}
 use Rattle.line.proofs.ident.Tie as tie
-use Rattle.line.proofs.ident.Reads as reads
-use Rattle.line.proofs.ident.Lts as lts
-use Rattle.line.proofs.char_at.Reads as char-at-reads
 
 char-at-requires : tie.Need-char-at-requires
 char-at-requires c κs = search needs

@@ -2,9 +2,6 @@
 use borrow.Author.Needs.{needs}
 use Rattle.line.proofs.is_ident.Statement.{statement}
 use Rattle.line.proofs.is_ident.Tie as tie
-use Rattle.line.proofs.is_ident.Reads as reads
-use Rattle.line.proofs.is_ident.Lts as lts
-use Rattle.digits.proofs.read_digit.Reads as read-digit-reads
 
 read-digit-requires : tie.Need-read-digit-requires
 read-digit-requires c κs = search needs

@@ -5,9 +5,6 @@ use mathlib.Core.Path.{ap}
 use lib.Dec.{eqb}
 use Rattle.line.proofs.is_silent.Statement.{statement}
 use Rattle.line.proofs.is_silent.Tie as tie
-use Rattle.line.proofs.is_silent.Reads as reads
-use Rattle.line.proofs.is_silent.Lts as lts
-use Rattle.line.proofs.char_at.Reads as char-at-reads
 
 char-at-requires : tie.Need-char-at-requires
 char-at-requires c κs = search needs

@@ -19,15 +19,6 @@ use Rattle.line.proofs.Laws.{
 }
 use Rattle.line.proofs.judge.Statement.{statement}
 use Rattle.line.proofs.judge.Tie as tie
-use Rattle.line.proofs.judge.Reads as reads
-use Rattle.line.proofs.judge.Lts as lts
-use Rattle.line.proofs.char_at.Reads as char-at-reads
-use Rattle.line.proofs.digit_count.Reads as digit-count-reads
-use Rattle.line.proofs.is_ident.Reads as is-ident-reads
-use Rattle.line.proofs.is_letter.Reads as is-letter-reads
-use Rattle.line.proofs.is_switch.Reads as is-switch-reads
-use Rattle.line.proofs.judge_number.Reads as judge-number-reads
-use Rattle.line.proofs.read_digits.Reads as read-digits-reads
 
 returns : tie.Need-returns
 returns c = too-short _ (rw length-take (omega arith))

@@ -7,12 +7,6 @@ use Rattle.line.specs.Line.{judgeForm}
 use Rattle.line.proofs.Laws.{refuse, pass}
 use Rattle.line.proofs.judge_form.Statement.{statement}
 use Rattle.line.proofs.judge_form.Tie as tie
-use Rattle.line.proofs.judge_form.Reads as reads
-use Rattle.line.proofs.judge_form.Lts as lts
-use Rattle.line.proofs.form.command.Reads as command-reads
-use Rattle.line.proofs.form.has_count.Reads as has-count-reads
-use Rattle.line.proofs.form.in_range.Reads as in-range-reads
-use Rattle.line.proofs.form.is_listed.Reads as is-listed-reads
 
 is-listed-requires : tie.Need-is-listed-requires
 is-listed-requires c κs = search needs

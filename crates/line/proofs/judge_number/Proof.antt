@@ -7,10 +7,6 @@ use Rattle.line.specs.declared.form.Form.{Form}
 use Rattle.line.specs.Line.{judgeForm}
 use Rattle.line.proofs.judge_number.Statement.{statement}
 use Rattle.line.proofs.judge_number.Tie as tie
-use Rattle.line.proofs.judge_number.Reads as reads
-use Rattle.line.proofs.judge_number.Lts as lts
-use Rattle.line.proofs.form.form_of.Reads as form-of-reads
-use Rattle.line.proofs.judge_form.Reads as judge-form-reads
 
 enum-told : tie.Need-enum-told
 enum-told c = search needs

@@ -2,10 +2,6 @@
 use borrow.Author.Needs.{needs}
 use Rattle.line.proofs.read_digits.Statement.{statement}
 use Rattle.line.proofs.read_digits.Tie as tie
-use Rattle.line.proofs.read_digits.Reads as reads
-use Rattle.line.proofs.read_digits.Lts as lts
-use Rattle.digits.proofs.read_six.Reads as read-six-reads
-use Rattle.line.proofs.char_at.Reads as char-at-reads
 
 char-at-requires : tie.Need-char-at-requires
 char-at-requires c κs = search needs

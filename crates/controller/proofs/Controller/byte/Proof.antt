@@ -1,3 +1,4 @@
+-- `byte` meets its contract: each return, by the tests and the answers that led there. Assumes nothing.
 use borrow.Author.Needs.{needs}
 use mathlib.Core.Path.{ap}
 use denote.Ref.{now}
@@ -13,11 +14,6 @@ use Rattle.controller.proofs.EntryLaws.{
 }
 use Rattle.controller.proofs.Controller.byte.Statement.{statement}
 use Rattle.controller.proofs.Controller.byte.Tie as tie
-use Rattle.controller.proofs.Controller.byte.Reads as reads
-use Rattle.controller.proofs.Controller.byte.Lts as lts
-use Rattle.controller.proofs.told.lined.Reads as lined-reads
-use Rattle.controller.proofs.with_line.Reads as with-line-reads
-use Rattle.receiver.proofs.Receiver.take.Reads as take-reads
 
 returns : tie.Need-returns
 returns c =
@@ -42,17 +38,32 @@ lined-requires : tie.Need-lined-requires
 lined-requires c κs =
     let q = c .before .before .before .before .before .before .before .before .before .before .before in
     let r = q .pre in
-    let k = c .before .before .before .before .before .before .take .ensures .1 ((state (r .switch) (r .history)) .line) (ap (λ (x : Controller). x .cold .line) (r .made)) in (
+    let k = c .before .before .before .before .before .before .take .ensures .1
+    ((state (r .switch) (r .history)) .line) (ap (λ (x : Controller). x .cold .line) (r .made)) in (
       c .before .before .before .before .before .before .before .before .before .if1 .left,
-      byte-judged (state (r .switch) (r .history)) (q .args .b) (now (q .args .buf)) (fits (r .switch) (r .history)) (q .args .self) (r .made) (c .before .before .before .before .before .before .before .before .before .if1 .left) _ k _ (c .before .before .before .before .with-line .ensures) _ _ _ (c .before .before .heard .given .1),
-      heard-start (state (r .switch) (r .history)) (q .args .b) (now (q .args .buf)) (fits (r .switch) (r .history)) (q .args .self) (r .made) (c .before .before .before .before .before .before .before .before .before .if1 .left) _ k _ (c .before .before .before .before .with-line .ensures),
+      byte-judged (state (r .switch) (r .history)) (q .args .b) (now (q .args .buf)) (fits (r .switch) (r .history))
+          (q .args .self) (r .made)
+          (c .before .before .before .before .before .before .before .before .before .if1 .left) _ k _
+          (c .before .before .before .before .with-line .ensures) _ _ _ (c .before .before .heard .given .1),
+      heard-start (state (r .switch) (r .history)) (q .args .b) (now (q .args .buf)) (fits (r .switch) (r .history))
+          (q .args .self) (r .made)
+          (c .before .before .before .before .before .before .before .before .before .if1 .left) _ k _
+          (c .before .before .before .before .with-line .ensures),
     )
 
 returns-2 : tie.Need-returns-2
 returns-2 c =
     let q = c .before .before .before .before .before .before .before .before .before in (
-      λ s h e. byte-gathered (state s h) (q .args .b) (now (q .args .buf)) (fits s h) (q .args .self) e (c .before .before .before .before .before .before .before .if1 .left) _ (c .before .before .before .before .take .ensures .1 (state s h .line) (ap (λ (x : Controller). x .cold .line) e)) _ (c .before .before .with-line .ensures) (c .enum-told .given .1) .0,
-      λ s h e. byte-gathered (state s h) (q .args .b) (now (q .args .buf)) (fits s h) (q .args .self) e (c .before .before .before .before .before .before .before .if1 .left) _ (c .before .before .before .before .take .ensures .1 (state s h .line) (ap (λ (x : Controller). x .cold .line) e)) _ (c .before .before .with-line .ensures) (c .enum-told .given .1) .1,
+      λ s h e. byte-gathered (state s h) (q .args .b) (now (q .args .buf)) (fits s h) (q .args .self) e
+          (c .before .before .before .before .before .before .before .if1 .left) _
+          (c .before .before .before .before .take .ensures .1 (state s h .line)
+          (ap (λ (x : Controller). x .cold .line) e)) _ (c .before .before .with-line .ensures)
+          (c .enum-told .given .1) .0,
+      λ s h e. byte-gathered (state s h) (q .args .b) (now (q .args .buf)) (fits s h) (q .args .self) e
+          (c .before .before .before .before .before .before .before .if1 .left) _
+          (c .before .before .before .before .take .ensures .1 (state s h .line)
+          (ap (λ (x : Controller). x .cold .line) e)) _ (c .before .before .with-line .ensures)
+          (c .enum-told .given .1) .1,
     )
 
 same-length : tie.Need-same-length
@@ -61,8 +72,20 @@ same-length c = search needs
 returns-3 : tie.Need-returns-3
 returns-3 c =
     let q = c .before .before .before .before .before .before .before .before .before .before .before .before .before .before in (
-      λ s h e. byte-lined (state s h) (q .args .b) (now (q .args .buf)) (fits s h) (q .args .self) e (c .before .before .before .before .before .before .before .before .before .before .before .before .if1 .left) _ (c .before .before .before .before .before .before .before .before .before .take .ensures .1 (state s h .line) (ap (λ (x : Controller). x .cold .line) e)) _ (c .before .before .before .before .before .before .before .with-line .ensures) _ _ _ _ _ (c .before .before .before .before .before .heard .given .1) (c .before .before .lined .ensures .0) (c .before .before .lined .ensures .1) .0,
-      λ s h e. byte-lined (state s h) (q .args .b) (now (q .args .buf)) (fits s h) (q .args .self) e (c .before .before .before .before .before .before .before .before .before .before .before .before .if1 .left) _ (c .before .before .before .before .before .before .before .before .before .take .ensures .1 (state s h .line) (ap (λ (x : Controller). x .cold .line) e)) _ (c .before .before .before .before .before .before .before .with-line .ensures) _ _ _ _ _ (c .before .before .before .before .before .heard .given .1) (c .before .before .lined .ensures .0) (c .before .before .lined .ensures .1) .1,
+      λ s h e. byte-lined (state s h) (q .args .b) (now (q .args .buf)) (fits s h) (q .args .self) e
+          (c .before .before .before .before .before .before .before .before .before .before .before .before .if1 .left)
+          _ (c .before .before .before .before .before .before .before .before .before .take .ensures .1
+          (state s h .line) (ap (λ (x : Controller). x .cold .line) e)) _
+          (c .before .before .before .before .before .before .before .with-line .ensures) _ _ _ _ _
+          (c .before .before .before .before .before .heard .given .1) (c .before .before .lined .ensures .0)
+          (c .before .before .lined .ensures .1) .0,
+      λ s h e. byte-lined (state s h) (q .args .b) (now (q .args .buf)) (fits s h) (q .args .self) e
+          (c .before .before .before .before .before .before .before .before .before .before .before .before .if1 .left)
+          _ (c .before .before .before .before .before .before .before .before .before .take .ensures .1
+          (state s h .line) (ap (λ (x : Controller). x .cold .line) e)) _
+          (c .before .before .before .before .before .before .before .with-line .ensures) _ _ _ _ _
+          (c .before .before .before .before .before .heard .given .1) (c .before .before .lined .ensures .0)
+          (c .before .before .lined .ensures .1) .1,
     )
 
 pub byte-spec : {M : Type 1} → statement M

@@ -1,3 +1,4 @@
+-- `status` meets its contract: each return, by the tests and the answers that led there. Assumes nothing.
 use borrow.Author.Needs.{needs}
 use mathlib.Core.Path.{sym, ap, _∙_}
 use Rattle.machine.specs.Calls.{state}
@@ -5,9 +6,6 @@ use Rattle.controller.specs.Told.{statusOf}
 use Rattle.controller.proofs.ByteLaws.{status-is}
 use Rattle.controller.proofs.Controller.status.Statement.{statement}
 use Rattle.controller.proofs.Controller.status.Tie as tie
-use Rattle.controller.proofs.Controller.status.Reads as reads
-use Rattle.controller.proofs.Controller.status.Lts as lts
-use Rattle.controller.proofs.told.status.Reads as status-reads
 
 status-requires : tie.Need-status-requires
 status-requires c κs = search needs

@@ -1,3 +1,4 @@
+-- `tick` meets its contract: each return, by the tests and the answers that led there. Assumes nothing.
 use borrow.Author.Needs.{needs}
 use Rattle.machine.specs.Calls.{state}
 use Rattle.machine.proofs.FitLaws.{fits}
@@ -14,13 +15,6 @@ use Rattle.controller.proofs.EntryLaws.{
 }
 use Rattle.controller.proofs.Controller.tick.Statement.{statement}
 use Rattle.controller.proofs.Controller.tick.Tie as tie
-use Rattle.controller.proofs.Controller.tick.Reads as reads
-use Rattle.controller.proofs.Controller.tick.Lts as lts
-use Rattle.controller.proofs.motion.rest.Reads as rest-reads
-use Rattle.controller.proofs.motion.runs.Reads as runs-reads
-use Rattle.controller.proofs.start.waits.Reads as waits-reads
-use Rattle.controller.proofs.watch.stops.Reads as stops-reads
-use Rattle.controller.proofs.watch.takes.Reads as takes-reads
 
 returns : tie.Need-returns
 returns c =
@@ -35,7 +29,8 @@ waits-requires c κs =
     let r = q .pre in
     let m = state (r .switch) (r .history) in
     let f = fits (r .switch) (r .history) in
-    take-fits m (q .args .word) f (q .args .self) (r .made) _ (took m (q .args .word) f (q .args .self) (r .made) _ (c .takes .ensures))
+    take-fits m (q .args .word) f (q .args .self) (r .made) _
+    (took m (q .args .word) f (q .args .self) (r .made) _ (c .takes .ensures))
 
 stops-requires : tie.Need-stops-requires
 stops-requires c κs = search needs
@@ -48,27 +43,39 @@ runs-requires c κs =
     let f = fits (r .switch) (r .history) in
     let t = took m (q .args .word) f (q .args .self) (r .made) _ (c .before .before .before .takes .ensures) in
     let w = waited-is m (q .args .word) f (q .args .self) (r .made) _ _ t (c .before .before .waits .ensures) in
-    stop-fits m (q .args .word) f (q .args .self) (r .made) _ (stop-is m (q .args .word) f (q .args .self) (r .made) _ _ w (c .stops .ensures))
+    stop-fits m (q .args .word) f (q .args .self) (r .made) _
+    (stop-is m (q .args .word) f (q .args .self) (r .made) _ _ w (c .stops .ensures))
 
 rest-requires : tie.Need-rest-requires
 rest-requires c κs =
-    let q = c .before .before .before .before .before .before .before .before .before .before .before .before in
+    let v = c .before .before in
+    let p = v .before in
+    let w = p .before .before in
+    let t = w .before in
+    let q = t .before .before .before .before .before .before in
     let r = q .pre in
     let m = state (r .switch) (r .history) in
     let f = fits (r .switch) (r .history) in
-    let t = took m (q .args .word) f (q .args .self) (r .made) _ (c .before .before .before .before .before .before .takes .ensures) in
-    let w = waited-is m (q .args .word) f (q .args .self) (r .made) _ _ t (c .before .before .before .before .before .waits .ensures) in
-    let p = stop-is m (q .args .word) f (q .args .self) (r .made) _ _ w (c .before .before .before .stops .ensures) in
-    run-wires m (q .args .word) f (q .args .self) (r .made) _ (run-was m (q .args .word) f (q .args .self) (r .made) _ _ p (c .before .before .runs .ensures))
+    let et = took m (q .args .word) f (q .args .self) (r .made) _ (t .takes .ensures) in
+    let ew = waited-is m (q .args .word) f (q .args .self) (r .made) _ _ et (w .waits .ensures) in
+    let es = stop-is m (q .args .word) f (q .args .self) (r .made) _ _ ew (p .stops .ensures) in
+    run-wires m (q .args .word) f (q .args .self) (r .made) _ (run-was m (q .args .word) f (q .args .self) (r .made) _ _ es (v .runs .ensures))
 
 returns-2 : tie.Need-returns-2
 returns-2 c =
-    let q = c .before .before .before .before .before .before .before .before .before .before .before .before .before .before in
+    let z = c .before in
+    let v = z .before .before .before in
+    let p = v .before in
+    let w = p .before .before in
+    let t = w .before in
+    let g = t .before .before .before .before .before in
+    let q = g .before in
     λ s h e.
-    let t = took (state s h) (q .args .word) (fits s h) (q .args .self) e _ (c .before .before .before .before .before .before .before .before .takes .ensures) in
-    let w = waited-is (state s h) (q .args .word) (fits s h) (q .args .self) e _ _ t (c .before .before .before .before .before .before .before .waits .ensures) in
-    let p = stop-is (state s h) (q .args .word) (fits s h) (q .args .self) e _ _ w (c .before .before .before .before .before .stops .ensures) in
-    tick-is (state s h) (q .args .word) (fits s h) (q .args .self) e _ _ _ (c .before .before .before .before .before .before .before .before .before .before .before .before .before .if1 .left) w (run-was (state s h) (q .args .word) (fits s h) (q .args .self) e _ _ p (c .before .before .before .before .runs .ensures)) (c .before .rest .ensures)
+    let et = took (state s h) (q .args .word) (fits s h) (q .args .self) e _ (t .takes .ensures) in
+    let ew = waited-is (state s h) (q .args .word) (fits s h) (q .args .self) e _ _ et (w .waits .ensures) in
+    let es = stop-is (state s h) (q .args .word) (fits s h) (q .args .self) e _ _ ew (p .stops .ensures) in
+    let er = run-was (state s h) (q .args .word) (fits s h) (q .args .self) e _ _ es (v .runs .ensures) in
+    tick-is (state s h) (q .args .word) (fits s h) (q .args .self) e _ _ _ (g .if1 .left) ew er (z .rest .ensures)
 
 pub tick-spec : {M : Type 1} → statement M
 tick-spec =

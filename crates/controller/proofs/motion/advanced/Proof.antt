@@ -1,11 +1,8 @@
+-- `advanced` meets its contract: each return, by the tests and the answers that led there. Assumes nothing.
 use borrow.Author.Needs.{needs}
 use Rattle.laws.proofs.Pick.{on-lt, on-ge}
 use Rattle.controller.proofs.motion.advanced.Statement.{statement}
 use Rattle.controller.proofs.motion.advanced.Tie as tie
-use Rattle.controller.proofs.motion.advanced.Reads as reads
-use Rattle.controller.proofs.motion.advanced.Lts as lts
-use Rattle.controller.proofs.motion.pulsed.Reads as pulsed-reads
-use Rattle.controller.proofs.motion.quiet.Reads as quiet-reads
 
 add-grown : tie.Need-add-grown
 add-grown c = search needs

@@ -1,3 +1,4 @@
+-- `axis_step` meets its contract: each return, by the tests and the answers that led there. Assumes nothing.
 use borrow.Author.Needs.{needs}
 use native.Mathlib.Omega.{arith}
 use mathlib.Core.Bool.{false}
@@ -8,9 +9,6 @@ use Rattle.controller.specs.Inner.{travelAt, positionAt, axisBy}
 use Rattle.controller.proofs.StepLaws.{grown, axis-down, axis-up, axis-still}
 use Rattle.controller.proofs.motion.axis_step.Statement.{statement}
 use Rattle.controller.proofs.motion.axis_step.Tie as tie
-use Rattle.controller.proofs.motion.axis_step.Reads as reads
-use Rattle.controller.proofs.motion.axis_step.Lts as lts
-use Rattle.controller.proofs.motion.share_step.Reads as share-step-reads
 
 mul-t : tie.Need-mul-t
 mul-t c = search needs
@@ -48,7 +46,13 @@ add-t29 c =
     let s = c .before .before .before .before .share-step in
     let r = getD (q .args .t2 .remainders) (q .args .k) 0 in
     let d = getD (q .args .t1 .distances) (q .args .k) 0 in
-    omega (arith, q .pre .grows (grown (s .result) r d (q .args .length) (s .ensures) (c .before .before .before .if1 .taken)), q .pre .short, q .pre .bound)
+    omega (
+      arith,
+      q .pre .grows (grown (s .result) r d (q .args .length) (s .ensures)
+          (c .before .before .before .if1 .taken)),
+      q .pre .short,
+      q .pre .bound,
+    )
 
 sub-t31 : tie.Need-sub-t31
 sub-t31 c =
@@ -56,7 +60,12 @@ sub-t31 c =
     let s = c .before .before .before .before .before .share-step in
     let r = getD (q .args .t2 .remainders) (q .args .k) 0 in
     let d = getD (q .args .t1 .distances) (q .args .k) 0 in
-    omega (arith, q .pre .grows (grown (s .result) r d (q .args .length) (s .ensures) (c .before .before .before .before .if1 .taken)), q .pre .low (c .before .before .if2 .taken))
+    omega (
+      arith,
+      q .pre .grows (grown (s .result) r d (q .args .length) (s .ensures)
+          (c .before .before .before .before .if1 .taken)),
+      q .pre .low (c .before .before .if2 .taken),
+    )
 
 returns : tie.Need-returns
 returns c =
@@ -64,8 +73,11 @@ returns c =
     let s = c .before .before .before .before .before .share-step in
     let r = getD (q .args .t2 .remainders) (q .args .k) 0 in
     let d = getD (q .args .t1 .distances) (q .args .k) 0 in
-    axis-down (s .result) (travelAt (q .args .t2) (q .args .k)) (positionAt (q .args .t2) (q .args .k)) (getD (q .args .t1 .minus) (q .args .k) false) (c .before .before .before .before .if1 .taken) (c .before .before .if2 .taken)
-    ∙ ap (λ (x : Share). axisBy x (travelAt (q .args .t2) (q .args .k)) (positionAt (q .args .t2) (q .args .k)) (getD (q .args .t1 .minus) (q .args .k) false)) (s .ensures)
+    axis-down (s .result) (travelAt (q .args .t2) (q .args .k)) (positionAt (q .args .t2) (q .args .k))
+    (getD (q .args .t1 .minus) (q .args .k) false) (c .before .before .before .before .if1 .taken)
+    (c .before .before .if2 .taken)
+    ∙ ap (λ (x : Share). axisBy x (travelAt (q .args .t2) (q .args .k)) (positionAt (q .args .t2) (q .args .k))
+    (getD (q .args .t1 .minus) (q .args .k) false)) (s .ensures)
 
 add-t33 : tie.Need-add-t33
 add-t33 c =
@@ -73,7 +85,13 @@ add-t33 c =
     let s = c .before .before .before .before .share-step in
     let r = getD (q .args .t2 .remainders) (q .args .k) 0 in
     let d = getD (q .args .t1 .distances) (q .args .k) 0 in
-    omega (arith, q .pre .grows (grown (s .result) r d (q .args .length) (s .ensures) (c .before .before .before .if1 .taken)), q .pre .short, q .pre .bound)
+    omega (
+      arith,
+      q .pre .grows (grown (s .result) r d (q .args .length) (s .ensures)
+          (c .before .before .before .if1 .taken)),
+      q .pre .short,
+      q .pre .bound,
+    )
 
 add-t35 : tie.Need-add-t35
 add-t35 c =
@@ -81,7 +99,14 @@ add-t35 c =
     let s = c .before .before .before .before .before .share-step in
     let r = getD (q .args .t2 .remainders) (q .args .k) 0 in
     let d = getD (q .args .t1 .distances) (q .args .k) 0 in
-    omega (arith, q .pre .grows (grown (s .result) r d (q .args .length) (s .ensures) (c .before .before .before .before .if1 .taken)), q .pre .high (c .before .before .if2 .left), q .pre .short, q .pre .bound)
+    omega (
+      arith,
+      q .pre .grows (grown (s .result) r d (q .args .length) (s .ensures)
+          (c .before .before .before .before .if1 .taken)),
+      q .pre .high (c .before .before .if2 .left),
+      q .pre .short,
+      q .pre .bound,
+    )
 
 returns-2 : tie.Need-returns-2
 returns-2 c =
@@ -89,8 +114,11 @@ returns-2 c =
     let s = c .before .before .before .before .before .share-step in
     let r = getD (q .args .t2 .remainders) (q .args .k) 0 in
     let d = getD (q .args .t1 .distances) (q .args .k) 0 in
-    axis-up (s .result) (travelAt (q .args .t2) (q .args .k)) (positionAt (q .args .t2) (q .args .k)) (getD (q .args .t1 .minus) (q .args .k) false) (c .before .before .before .before .if1 .taken) (c .before .before .if2 .left)
-    ∙ ap (λ (x : Share). axisBy x (travelAt (q .args .t2) (q .args .k)) (positionAt (q .args .t2) (q .args .k)) (getD (q .args .t1 .minus) (q .args .k) false)) (s .ensures)
+    axis-up (s .result) (travelAt (q .args .t2) (q .args .k)) (positionAt (q .args .t2) (q .args .k))
+    (getD (q .args .t1 .minus) (q .args .k) false) (c .before .before .before .before .if1 .taken)
+    (c .before .before .if2 .left)
+    ∙ ap (λ (x : Share). axisBy x (travelAt (q .args .t2) (q .args .k)) (positionAt (q .args .t2) (q .args .k))
+    (getD (q .args .t1 .minus) (q .args .k) false)) (s .ensures)
 
 returns-3 : tie.Need-returns-3
 returns-3 c =
@@ -98,8 +126,10 @@ returns-3 c =
     let s = c .before .share-step in
     let r = getD (q .args .t2 .remainders) (q .args .k) 0 in
     let d = getD (q .args .t1 .distances) (q .args .k) 0 in
-    axis-still (s .result) (travelAt (q .args .t2) (q .args .k)) (positionAt (q .args .t2) (q .args .k)) (getD (q .args .t1 .minus) (q .args .k) false) (c .if1 .left)
-    ∙ ap (λ (x : Share). axisBy x (travelAt (q .args .t2) (q .args .k)) (positionAt (q .args .t2) (q .args .k)) (getD (q .args .t1 .minus) (q .args .k) false)) (s .ensures)
+    axis-still (s .result) (travelAt (q .args .t2) (q .args .k)) (positionAt (q .args .t2) (q .args .k))
+    (getD (q .args .t1 .minus) (q .args .k) false) (c .if1 .left)
+    ∙ ap (λ (x : Share). axisBy x (travelAt (q .args .t2) (q .args .k)) (positionAt (q .args .t2) (q .args .k))
+    (getD (q .args .t1 .minus) (q .args .k) false)) (s .ensures)
 
 pub axis-step-spec : {M : Type 1} → statement M
 axis-step-spec =

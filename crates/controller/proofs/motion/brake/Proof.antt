@@ -1,9 +1,8 @@
+-- `brake` meets its contract: each return, by the tests and the answers that led there. Assumes nothing.
 use borrow.Author.Needs.{needs}
 use Rattle.controller.proofs.StepLaws.{brake-low, brake-near, brake-far}
 use Rattle.controller.proofs.motion.brake.Statement.{statement}
 use Rattle.controller.proofs.motion.brake.Tie as tie
-use Rattle.controller.proofs.motion.brake.Reads as reads
-use Rattle.controller.proofs.motion.brake.Lts as lts
 
 returns : tie.Need-returns
 returns c = brake-low _ _ (c .if1 .taken)

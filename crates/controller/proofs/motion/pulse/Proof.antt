@@ -1,8 +1,7 @@
+-- `pulse` meets its contract: each return, by the tests and the answers that led there. Assumes nothing.
 use Rattle.laws.proofs.Pick.{picks}
 use Rattle.controller.proofs.motion.pulse.Statement.{statement}
 use Rattle.controller.proofs.motion.pulse.Tie as tie
-use Rattle.controller.proofs.motion.pulse.Reads as reads
-use Rattle.controller.proofs.motion.pulse.Lts as lts
 
 returns : tie.Need-returns
 returns c = rw (c .before .if1 .taken, c .if2 .taken)

@@ -1,3 +1,4 @@
+-- `pulsed` meets its contract: each return, by the tests and the answers that led there. Assumes nothing.
 use borrow.Author.Needs.{needs}
 use native.Mathlib.Omega.{arith}
 use mathlib.Core.Path.{ap, _∙_}
@@ -7,13 +8,6 @@ use Rattle.controller.specs.Inner.{endedOf}
 use Rattle.controller.proofs.StepLaws.{pulsed-is}
 use Rattle.controller.proofs.motion.pulsed.Statement.{statement}
 use Rattle.controller.proofs.motion.pulsed.Tie as tie
-use Rattle.controller.proofs.motion.pulsed.Reads as reads
-use Rattle.controller.proofs.motion.pulsed.Lts as lts
-use Rattle.controller.proofs.motion.axis_step.Reads as axis-step-reads
-use Rattle.controller.proofs.motion.ended.Reads as ended-reads
-use Rattle.controller.proofs.motion.pulse.Reads as pulse-reads
-use Rattle.controller.proofs.motion.stepped.Reads as stepped-reads
-use Rattle.controller.proofs.motion.word.Reads as word-reads
 
 axis-step-requires : tie.Need-axis-step-requires
 axis-step-requires c κs = c .before .before .before .before .pre .axes 0 (omega arith)
@@ -31,7 +25,9 @@ axis-step-requires-5 : tie.Need-axis-step-requires-5
 axis-step-requires-5 c κs = c .before .before .before .before .before .before .before .before .pre .axes 4 (omega arith)
 
 stepped-requires : tie.Need-stepped-requires
-stepped-requires c κs = c .before .before .before .before .before .before .before .before .before .pre .gone
+stepped-requires c κs =
+    let q = c .before .before .before .before in
+    q .before .before .before .before .before .pre .gone
 
 array-read-pulse : tie.Need-array-read-pulse
 array-read-pulse c = search needs
@@ -64,37 +60,73 @@ pulse-requires-5 : tie.Need-pulse-requires-5
 pulse-requires-5 c κs = search needs
 
 word-requires : tie.Need-word-requires
-word-requires c κs = c .before .before .before .before .before .before .before .before .before .before .before .before .before .before .before .before .pre .wires
+word-requires c κs =
+    let q = c .before .before .before .before .before .before .before .before in
+    q .before .before .before .before .before .before .before .before .pre .wires
 
 add-if1 : tie.Need-add-if1
-add-if1 c = let f = c .before .before .before .before .before .before .before .before .before .before .before .before .before .before .before .before .before .before .pre .gone in omega (arith, f)
+add-if1 c =
+    let q = c .before .before .before .before .before .before .before .before .before in
+    let g = q .before .before .before .before .before .before .before .before .before .pre .gone in
+    omega (arith, g)
 
 ended-requires : tie.Need-ended-requires
-ended-requires c κs = c .before .before .before .before .before .before .before .before .before .before .before .before .before .before .before .before .before .before .before .pre .dwell
+ended-requires c κs =
+    let q = c .before .before .before .before .before .before .before .before .before in
+    q .before .before .before .before .before .before .before .before .before .before .pre .dwell
 
 returns : tie.Need-returns
 returns c =
-    let q = c .before .before .before .before .before .before .before .before .before .before .before .before .before .before .before .before .before .before .before .before .args in
+    let w = c .before .before .before in
+    let u5 = w .before in
+    let u4 = u5 .before in
+    let u3 = u4 .before in
+    let u2 = u3 .before in
+    let u1 = u2 .before in
+    let n = u1 .before .before in
+    let a5 = n .before in
+    let a4 = a5 .before in
+    let a3 = a4 .before in
+    let a2 = a3 .before in
+    let a1 = a2 .before in
+    let q = a1 .before .before .before .before .before .args in
     pulsed-is (q .hot) (q .dwell) (q .speed) (q .phase)
-    (c .before .before .before .before .before .before .before .before .before .before .before .before .before .before .before .axis-step .result) (c .before .before .before .before .before .before .before .before .before .before .before .before .before .before .axis-step2 .result) (c .before .before .before .before .before .before .before .before .before .before .before .before .before .axis-step3 .result) (c .before .before .before .before .before .before .before .before .before .before .before .before .axis-step4 .result) (c .before .before .before .before .before .before .before .before .before .before .before .axis-step5 .result)
-    (c .ended .result) (c .before .before .before .word .result)
-    (c .before .before .before .before .before .before .before .before .pulse .result) (c .before .before .before .before .before .before .before .pulse2 .result) (c .before .before .before .before .before .before .pulse3 .result) (c .before .before .before .before .before .pulse4 .result) (c .before .before .before .before .pulse5 .result)
-    (on-eq _ _ _ _ _ (c .before .if1 .taken) (c .ended .ensures ∙ ap (λ (x : Hot). endedOf x (q .dwell)) (c .before .before .before .before .before .before .before .before .before .before .stepped .ensures)))
-    (c .before .before .before .word .ensures)
-    (c .before .before .before .before .before .before .before .before .pulse .ensures) (c .before .before .before .before .before .before .before .pulse2 .ensures) (c .before .before .before .before .before .before .pulse3 .ensures) (c .before .before .before .before .before .pulse4 .ensures) (c .before .before .before .before .pulse5 .ensures)
-    (c .before .before .before .before .before .before .before .before .before .before .before .before .before .before .before .axis-step .ensures) (c .before .before .before .before .before .before .before .before .before .before .before .before .before .before .axis-step2 .ensures) (c .before .before .before .before .before .before .before .before .before .before .before .before .before .axis-step3 .ensures) (c .before .before .before .before .before .before .before .before .before .before .before .before .axis-step4 .ensures) (c .before .before .before .before .before .before .before .before .before .before .before .axis-step5 .ensures)
+    (a1 .axis-step .result) (a2 .axis-step2 .result) (a3 .axis-step3 .result) (a4 .axis-step4 .result)
+    (a5 .axis-step5 .result)
+    (c .ended .result) (w .word .result)
+    (u1 .pulse .result) (u2 .pulse2 .result) (u3 .pulse3 .result) (u4 .pulse4 .result) (u5 .pulse5 .result)
+    (on-eq _ _ _ _ _ (c .before .if1 .taken)
+    (c .ended .ensures ∙ ap (λ (x : Hot). endedOf x (q .dwell)) (n .stepped .ensures)))
+    (w .word .ensures)
+    (u1 .pulse .ensures) (u2 .pulse2 .ensures) (u3 .pulse3 .ensures) (u4 .pulse4 .ensures) (u5 .pulse5 .ensures)
+    (a1 .axis-step .ensures) (a2 .axis-step2 .ensures) (a3 .axis-step3 .ensures) (a4 .axis-step4 .ensures)
+    (a5 .axis-step5 .ensures)
 
 returns-2 : tie.Need-returns-2
 returns-2 c =
-    let q = c .before .before .before .before .before .before .before .before .before .before .before .before .before .before .before .before .before .before .before .args in
+    let w = c .before .before in
+    let u5 = w .before in
+    let u4 = u5 .before in
+    let u3 = u4 .before in
+    let u2 = u3 .before in
+    let u1 = u2 .before in
+    let n = u1 .before .before in
+    let a5 = n .before in
+    let a4 = a5 .before in
+    let a3 = a4 .before in
+    let a2 = a3 .before in
+    let a1 = a2 .before in
+    let q = a1 .before .before .before .before .before .args in
     pulsed-is (q .hot) (q .dwell) (q .speed) (q .phase)
-    (c .before .before .before .before .before .before .before .before .before .before .before .before .before .before .axis-step .result) (c .before .before .before .before .before .before .before .before .before .before .before .before .before .axis-step2 .result) (c .before .before .before .before .before .before .before .before .before .before .before .before .axis-step3 .result) (c .before .before .before .before .before .before .before .before .before .before .before .axis-step4 .result) (c .before .before .before .before .before .before .before .before .before .before .axis-step5 .result)
-    (c .before .before .before .before .before .before .before .before .before .stepped .result) (c .before .before .word .result)
-    (c .before .before .before .before .before .before .before .pulse .result) (c .before .before .before .before .before .before .pulse2 .result) (c .before .before .before .before .before .pulse3 .result) (c .before .before .before .before .pulse4 .result) (c .before .before .before .pulse5 .result)
-    (on-ne _ _ _ _ _ (c .if1 .left) (c .before .before .before .before .before .before .before .before .before .stepped .ensures))
-    (c .before .before .word .ensures)
-    (c .before .before .before .before .before .before .before .pulse .ensures) (c .before .before .before .before .before .before .pulse2 .ensures) (c .before .before .before .before .before .pulse3 .ensures) (c .before .before .before .before .pulse4 .ensures) (c .before .before .before .pulse5 .ensures)
-    (c .before .before .before .before .before .before .before .before .before .before .before .before .before .before .axis-step .ensures) (c .before .before .before .before .before .before .before .before .before .before .before .before .before .axis-step2 .ensures) (c .before .before .before .before .before .before .before .before .before .before .before .before .axis-step3 .ensures) (c .before .before .before .before .before .before .before .before .before .before .before .axis-step4 .ensures) (c .before .before .before .before .before .before .before .before .before .before .axis-step5 .ensures)
+    (a1 .axis-step .result) (a2 .axis-step2 .result) (a3 .axis-step3 .result) (a4 .axis-step4 .result)
+    (a5 .axis-step5 .result)
+    (n .stepped .result) (w .word .result)
+    (u1 .pulse .result) (u2 .pulse2 .result) (u3 .pulse3 .result) (u4 .pulse4 .result) (u5 .pulse5 .result)
+    (on-ne _ _ _ _ _ (c .if1 .left) (n .stepped .ensures))
+    (w .word .ensures)
+    (u1 .pulse .ensures) (u2 .pulse2 .ensures) (u3 .pulse3 .ensures) (u4 .pulse4 .ensures) (u5 .pulse5 .ensures)
+    (a1 .axis-step .ensures) (a2 .axis-step2 .ensures) (a3 .axis-step3 .ensures) (a4 .axis-step4 .ensures)
+    (a5 .axis-step5 .ensures)
 
 pub pulsed-spec : {M : Type 1} → statement M
 pulsed-spec =

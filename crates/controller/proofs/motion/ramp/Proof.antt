@@ -1,3 +1,4 @@
+-- `ramp` meets its contract: each return, by the tests and the answers that led there. Assumes nothing.
 use borrow.Author.Needs.{needs}
 use native.Mathlib.Omega.{arith}
 use Prim.Native.Nat.{ℕ, _-_, _*_, _≤_}
@@ -7,10 +8,6 @@ use Rattle.laws.proofs.Pick.{on-true, on-false, on-le, on-gt}
 use Rattle.machine.proofs.FitLaws.{braked-small, towards-small}
 use Rattle.controller.proofs.motion.ramp.Statement.{statement}
 use Rattle.controller.proofs.motion.ramp.Tie as tie
-use Rattle.controller.proofs.motion.ramp.Reads as reads
-use Rattle.controller.proofs.motion.ramp.Lts as lts
-use Rattle.controller.proofs.motion.approach.Reads as approach-reads
-use Rattle.controller.proofs.motion.brake.Reads as brake-reads
 
 returns : tie.Need-returns
 returns c = (on-true _ _ _ _ (c .before .if1 .taken) (omega arith), omega arith)
@@ -49,7 +46,8 @@ mul-if3-2 : tie.Need-mul-if3-2
 mul-if3-2 c =
     let f = c .before .before .before .pre in
     let k : 2 * c .before .before .before .args .settings .slope ≤ 8190 = omega (arith, f .slope) in
-    let l : (c .before .before .before .args .run .length - c .before .before .before .args .run .gone) * 50000000 - c .before .before .before .args .run .phase ≤ 26214350000000 =
+    let l : (c .before .before .before .args .run .length - c .before .before .before .args .run .gone) * 50000000 -
+    c .before .before .before .args .run .phase ≤ 26214350000000 =
     omega (arith, f .length) in
     omega (arith, mul-le-mul k l)
 
@@ -71,8 +69,10 @@ returns-3 : tie.Need-returns-3
 returns-3 c =
     let s = c .before .before .before .before .before .args in
     let f = c .before .before .before .before .before .pre in (
-      on-false _ _ _ _ (c .before .before .before .before .if1 .left) (on-le _ _ _ _ _ (c .before .if3 .taken) (c .brake .ensures)),
-      subst (λ (x : ℕ). x ≤ 50000000) (sym (c .brake .ensures)) (braked-small (s .run .speed) (s .settings .slope) (f .now)),
+      on-false _ _ _ _ (c .before .before .before .before .if1 .left)
+          (on-le _ _ _ _ _ (c .before .if3 .taken) (c .brake .ensures)),
+      subst (λ (x : ℕ). x ≤ 50000000) (sym (c .brake .ensures))
+          (braked-small (s .run .speed) (s .settings .slope) (f .now)),
     )
 
 mul-approach : tie.Need-mul-approach
@@ -85,9 +85,11 @@ returns-4 : tie.Need-returns-4
 returns-4 c =
     let s = c .before .before .before .before .before .before .args in
     let f = c .before .before .before .before .before .before .pre in (
-      on-false _ _ _ _ (c .before .before .before .before .before .if1 .left) (on-gt _ _ _ _ _ (c .before .before .if3 .left) (c .approach .ensures)),
+      on-false _ _ _ _ (c .before .before .before .before .before .if1 .left)
+          (on-gt _ _ _ _ _ (c .before .before .if3 .left) (c .approach .ensures)),
       subst (λ (x : ℕ). x ≤ 50000000) (sym (c .approach .ensures))
-          (towards-small (s .run .speed) (50 * s .settings .speed) (s .settings .slope) (f .now) (omega (arith, f .speed))),
+          (towards-small (s .run .speed) (50 * s .settings .speed) (s .settings .slope) (f .now)
+          (omega (arith, f .speed))),
     )
 
 pub ramp-spec : {M : Type 1} → statement M

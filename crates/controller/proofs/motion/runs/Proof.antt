@@ -1,3 +1,4 @@
+-- `runs` meets its contract: each return, by the tests and the answers that led there. Assumes nothing.
 use borrow.Author.Needs.{needs}
 use Prim.Native.Nat.{ℕ}
 use mathlib.Core.Path.{sym, ap, subst, _∙_}
@@ -7,13 +8,6 @@ use Rattle.controller.specs.declared.hot.Hot.{Hot}
 use Rattle.controller.specs.Inner.{WiresFit, quietOf, advancedOf}
 use Rattle.controller.proofs.motion.runs.Statement.{statement}
 use Rattle.controller.proofs.motion.runs.Tie as tie
-use Rattle.controller.proofs.motion.runs.Reads as reads
-use Rattle.controller.proofs.motion.runs.Lts as lts
-use Rattle.controller.proofs.motion.advanced.Reads as advanced-reads
-use Rattle.controller.proofs.motion.ended.Reads as ended-reads
-use Rattle.controller.proofs.motion.quiet.Reads as quiet-reads
-use Rattle.controller.proofs.motion.ramp.Reads as ramp-reads
-use Rattle.controller.proofs.motion.stands.Reads as stands-reads
 
 quiet-requires : tie.Need-quiet-requires
 quiet-requires c κs = search needs
@@ -28,20 +22,24 @@ ended-requires : tie.Need-ended-requires
 ended-requires c κs = search needs
 
 quiet-requires-2 : tie.Need-quiet-requires-2
-quiet-requires-2 c κs = subst (λ (x : Hot). WiresFit (x .wires)) (sym (c .ended .ensures)) (c .before .before .before .before .before .before .pre .wires)
+quiet-requires-2 c κs = subst (λ (x : Hot). WiresFit (x .wires)) (sym (c .ended .ensures))
+    (c .before .before .before .before .before .before .pre .wires)
 
 returns-2 : tie.Need-returns-2
 returns-2 c =
     on-false _ _ _ _ (c .before .before .before .before .if1 .left)
-    (on-true _ _ _ _ (sym (c .before .before .before .stands .ensures) ∙ c .before .before .if2 .taken) (c .quiet2 .ensures ∙ ap quietOf (c .before .ended .ensures)))
+    (on-true _ _ _ _ (sym (c .before .before .before .stands .ensures) ∙ c .before .before .if2 .taken)
+    (c .quiet2 .ensures ∙ ap quietOf (c .before .ended .ensures)))
 
 ramp-requires : tie.Need-ramp-requires
-ramp-requires c κs = c .before .before .before .before .before .pre .ramp (not-false (c .before .before .before .before .before .args .hot .run .moving) (c .before .before .if1 .left))
+ramp-requires c κs = c .before .before .before .before .before .pre .ramp
+    (not-false (c .before .before .before .before .before .args .hot .run .moving) (c .before .before .if1 .left))
 
 advanced-requires : tie.Need-advanced-requires
 advanced-requires c κs =
     let q = c .before .before .before .before .before .before in
-    let e = (not-false (c .before .before .before .before .before .before .args .hot .run .moving) (c .before .before .before .if1 .left)) in
+    let e = (not-false (c .before .before .before .before .before .before .args .hot .run .moving)
+    (c .before .before .before .if1 .left)) in
     (c .ramp .ensures .1, q .pre .ramp e .phase, q .pre .pulse e)
 
 returns-3 : tie.Need-returns-3

@@ -1,9 +1,8 @@
+-- `share_step` meets its contract: each return, by the tests and the answers that led there. Assumes nothing.
 use borrow.Author.Needs.{needs}
 use Rattle.controller.proofs.StepLaws.{share-on, share-off}
 use Rattle.controller.proofs.motion.share_step.Statement.{statement}
 use Rattle.controller.proofs.motion.share_step.Tie as tie
-use Rattle.controller.proofs.motion.share_step.Reads as reads
-use Rattle.controller.proofs.motion.share_step.Lts as lts
 
 add-sum : tie.Need-add-sum
 add-sum c = search needs

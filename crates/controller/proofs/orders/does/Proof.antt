@@ -1,24 +1,10 @@
+-- `does` meets its contract: each return, by the tests and the answers that led there. Assumes nothing.
 use borrow.Author.Needs.{needs}
 use mathlib.Core.Path.{sym, ap, subst, _∙_}
 use Rattle.line.specs.Fits.{CommandFits}
 use Rattle.controller.specs.Orders.{doesOf}
 use Rattle.controller.proofs.orders.does.Statement.{statement}
 use Rattle.controller.proofs.orders.does.Tie as tie
-use Rattle.controller.proofs.orders.does.Reads as reads
-use Rattle.controller.proofs.orders.does.Lts as lts
-use Rattle.controller.proofs.orders.obey_clear.Reads as obey-clear-reads
-use Rattle.controller.proofs.orders.obey_reset.Reads as obey-reset-reads
-use Rattle.controller.proofs.orders.obey_start.Reads as obey-start-reads
-use Rattle.controller.proofs.orders.obey_stop.Reads as obey-stop-reads
-use Rattle.controller.proofs.orders.set_axis.Reads as set-axis-reads
-use Rattle.controller.proofs.orders.set_dwell.Reads as set-dwell-reads
-use Rattle.controller.proofs.orders.set_high.Reads as set-high-reads
-use Rattle.controller.proofs.orders.set_low.Reads as set-low-reads
-use Rattle.controller.proofs.orders.set_outputs.Reads as set-outputs-reads
-use Rattle.controller.proofs.orders.set_polarity.Reads as set-polarity-reads
-use Rattle.controller.proofs.orders.set_slope.Reads as set-slope-reads
-use Rattle.controller.proofs.orders.set_speed.Reads as set-speed-reads
-use Rattle.controller.proofs.orders.set_watch.Reads as set-watch-reads
 
 enum-known-command : tie.Need-enum-known-command
 enum-known-command c = search needs
@@ -114,22 +100,28 @@ set-outputs-requires : tie.Need-set-outputs-requires
 set-outputs-requires c κs = search needs
 
 returns : tie.Need-returns
-returns c = c .set-axis .ensures ∙ sym (ap (doesOf (c .before .before .before .before .args .c)) (c .before .before .command .given .1))
+returns c = c .set-axis .ensures ∙ sym
+    (ap (doesOf (c .before .before .before .before .args .c)) (c .before .before .command .given .1))
 
 returns-2 : tie.Need-returns-2
-returns-2 c = c .set-speed .ensures ∙ sym (ap (doesOf (c .before .before .before .before .args .c)) (c .before .before .command2 .given .1))
+returns-2 c = c .set-speed .ensures ∙ sym
+    (ap (doesOf (c .before .before .before .before .args .c)) (c .before .before .command2 .given .1))
 
 returns-3 : tie.Need-returns-3
-returns-3 c = c .set-slope .ensures ∙ sym (ap (doesOf (c .before .before .before .before .args .c)) (c .before .before .command3 .given .1))
+returns-3 c = c .set-slope .ensures ∙ sym
+    (ap (doesOf (c .before .before .before .before .args .c)) (c .before .before .command3 .given .1))
 
 returns-4 : tie.Need-returns-4
-returns-4 c = c .set-dwell .ensures ∙ sym (ap (doesOf (c .before .before .before .before .args .c)) (c .before .before .command4 .given .1))
+returns-4 c = c .set-dwell .ensures ∙ sym
+    (ap (doesOf (c .before .before .before .before .args .c)) (c .before .before .command4 .given .1))
 
 returns-5 : tie.Need-returns-5
-returns-5 c = c .set-watch .ensures ∙ sym (ap (doesOf (c .before .before .before .before .args .c)) (c .before .before .command5 .given .1))
+returns-5 c = c .set-watch .ensures ∙ sym
+    (ap (doesOf (c .before .before .before .before .args .c)) (c .before .before .command5 .given .1))
 
 returns-6 : tie.Need-returns-6
-returns-6 c = c .set-polarity .ensures ∙ sym (ap (doesOf (c .before .before .before .before .args .c)) (c .before .before .command6 .given .1))
+returns-6 c = c .set-polarity .ensures ∙ sym
+    (ap (doesOf (c .before .before .before .before .args .c)) (c .before .before .command6 .given .1))
 
 returns-7 : tie.Need-returns-7
 returns-7 c = sym (ap (doesOf (c .before .before .args .c)) (c .enum-told .given .1))
@@ -138,22 +130,28 @@ returns-8 : tie.Need-returns-8
 returns-8 c = sym (ap (doesOf (c .before .before .args .c)) (c .enum-told2 .given .1))
 
 returns-9 : tie.Need-returns-9
-returns-9 c = c .obey-start .ensures ∙ sym (ap (doesOf (c .before .before .before .before .args .c)) (c .before .before .command7 .given .1))
+returns-9 c = c .obey-start .ensures ∙ sym
+    (ap (doesOf (c .before .before .before .before .args .c)) (c .before .before .command7 .given .1))
 
 returns-10 : tie.Need-returns-10
-returns-10 c = c .obey-stop .ensures ∙ sym (ap (doesOf (c .before .before .before .args .c)) (c .before .enum-told3 .given .1))
+returns-10 c = c .obey-stop .ensures ∙ sym
+    (ap (doesOf (c .before .before .before .args .c)) (c .before .enum-told3 .given .1))
 
 returns-11 : tie.Need-returns-11
-returns-11 c = c .obey-clear .ensures ∙ sym (ap (doesOf (c .before .before .before .args .c)) (c .before .enum-told4 .given .1))
+returns-11 c = c .obey-clear .ensures ∙ sym
+    (ap (doesOf (c .before .before .before .args .c)) (c .before .enum-told4 .given .1))
 
 returns-12 : tie.Need-returns-12
-returns-12 c = c .obey-reset .ensures ∙ sym (ap (doesOf (c .before .before .before .args .c)) (c .before .enum-told5 .given .1))
+returns-12 c = c .obey-reset .ensures ∙ sym
+    (ap (doesOf (c .before .before .before .args .c)) (c .before .enum-told5 .given .1))
 
 returns-13 : tie.Need-returns-13
-returns-13 c = c .set-low .ensures ∙ sym (ap (doesOf (c .before .before .before .before .args .c)) (c .before .before .command8 .given .1))
+returns-13 c = c .set-low .ensures ∙ sym
+    (ap (doesOf (c .before .before .before .before .args .c)) (c .before .before .command8 .given .1))
 
 returns-14 : tie.Need-returns-14
-returns-14 c = c .set-high .ensures ∙ sym (ap (doesOf (c .before .before .before .before .args .c)) (c .before .before .command9 .given .1))
+returns-14 c = c .set-high .ensures ∙ sym
+    (ap (doesOf (c .before .before .before .before .args .c)) (c .before .before .command9 .given .1))
 
 returns-15 : tie.Need-returns-15
 returns-15 c = sym (ap (doesOf (c .before .before .args .c)) (c .enum-told6 .given .1))
@@ -165,7 +163,8 @@ returns-17 : tie.Need-returns-17
 returns-17 c = sym (ap (doesOf (c .before .before .args .c)) (c .enum-told8 .given .1))
 
 returns-18 : tie.Need-returns-18
-returns-18 c = c .set-outputs .ensures ∙ sym (ap (doesOf (c .before .before .before .before .args .c)) (c .before .before .command10 .given .1))
+returns-18 c = c .set-outputs .ensures ∙ sym
+    (ap (doesOf (c .before .before .before .before .args .c)) (c .before .before .command10 .given .1))
 
 pub does-spec : {M : Type 1} → statement M
 does-spec =

@@ -1,13 +1,10 @@
+-- `number` meets its contract: each return, by the tests and the answers that led there. Assumes nothing.
 use borrow.Author.Needs.{needs}
 use mathlib.Core.Path.{sym, ap, subst, _∙_}
 use Rattle.line.specs.Fits.{CommandFits}
 use Rattle.controller.specs.Orders.{numberOf}
 use Rattle.controller.proofs.orders.number.Statement.{statement}
 use Rattle.controller.proofs.orders.number.Tie as tie
-use Rattle.controller.proofs.orders.number.Reads as reads
-use Rattle.controller.proofs.orders.number.Lts as lts
-use Rattle.controller.proofs.orders.rest_number.Reads as rest-number-reads
-use Rattle.controller.proofs.orders.start_line.Reads as start-line-reads
 
 enum-told : tie.Need-enum-told
 enum-told c = search needs
@@ -52,7 +49,10 @@ enum-known-command : tie.Need-enum-known-command
 enum-known-command c = search needs
 
 start-line-requires : tie.Need-start-line-requires
-start-line-requires c κs = (subst CommandFits (c .before .command .given .1) (c .before .before .before .pre .0), c .before .before .before .pre .1)
+start-line-requires c κs = (
+  subst CommandFits (c .before .command .given .1) (c .before .before .before .pre .0),
+  c .before .before .before .pre .1,
+)
 
 enum-told-9 : tie.Need-enum-told-9
 enum-told-9 c = search needs
@@ -82,22 +82,27 @@ enum-told-17 : tie.Need-enum-told-17
 enum-told-17 c = search needs
 
 returns : tie.Need-returns
-returns c = c .rest-number .ensures ∙ sym (ap (numberOf (c .before .before .before .args .c)) (c .before .enum-told .given .1))
+returns c = c .rest-number .ensures ∙ sym
+    (ap (numberOf (c .before .before .before .args .c)) (c .before .enum-told .given .1))
 
 returns-2 : tie.Need-returns-2
 returns-2 c = sym (ap (numberOf (c .before .before .args .c)) (c .enum-told2 .given .1))
 
 returns-3 : tie.Need-returns-3
-returns-3 c = c .rest-number2 .ensures ∙ sym (ap (numberOf (c .before .before .before .args .c)) (c .before .enum-told3 .given .1))
+returns-3 c = c .rest-number2 .ensures ∙ sym
+    (ap (numberOf (c .before .before .before .args .c)) (c .before .enum-told3 .given .1))
 
 returns-4 : tie.Need-returns-4
-returns-4 c = c .rest-number3 .ensures ∙ sym (ap (numberOf (c .before .before .before .args .c)) (c .before .enum-told4 .given .1))
+returns-4 c = c .rest-number3 .ensures ∙ sym
+    (ap (numberOf (c .before .before .before .args .c)) (c .before .enum-told4 .given .1))
 
 returns-5 : tie.Need-returns-5
-returns-5 c = c .rest-number4 .ensures ∙ sym (ap (numberOf (c .before .before .before .args .c)) (c .before .enum-told5 .given .1))
+returns-5 c = c .rest-number4 .ensures ∙ sym
+    (ap (numberOf (c .before .before .before .args .c)) (c .before .enum-told5 .given .1))
 
 returns-6 : tie.Need-returns-6
-returns-6 c = c .rest-number5 .ensures ∙ sym (ap (numberOf (c .before .before .before .args .c)) (c .before .enum-told6 .given .1))
+returns-6 c = c .rest-number5 .ensures ∙ sym
+    (ap (numberOf (c .before .before .before .args .c)) (c .before .enum-told6 .given .1))
 
 returns-7 : tie.Need-returns-7
 returns-7 c = sym (ap (numberOf (c .before .before .args .c)) (c .enum-told7 .given .1))
@@ -106,7 +111,8 @@ returns-8 : tie.Need-returns-8
 returns-8 c = sym (ap (numberOf (c .before .before .args .c)) (c .enum-told8 .given .1))
 
 returns-9 : tie.Need-returns-9
-returns-9 c = c .start-line .ensures ∙ sym (ap (numberOf (c .before .before .before .before .args .c)) (c .before .before .command .given .1))
+returns-9 c = c .start-line .ensures ∙ sym
+    (ap (numberOf (c .before .before .before .before .args .c)) (c .before .before .command .given .1))
 
 returns-10 : tie.Need-returns-10
 returns-10 c = sym (ap (numberOf (c .before .before .args .c)) (c .enum-told9 .given .1))

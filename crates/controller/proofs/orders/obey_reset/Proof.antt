@@ -1,14 +1,10 @@
+-- `obey_reset` meets its contract: each return, by the tests and the answers that led there. Assumes nothing.
 use borrow.Author.Needs.{needs}
 use mathlib.Core.Bool.{Bool, _&&_}
 use mathlib.Core.Path.{ap, _∙_}
 use Rattle.controller.specs.Orders.{withHot, resetBy}
 use Rattle.controller.proofs.orders.obey_reset.Statement.{statement}
 use Rattle.controller.proofs.orders.obey_reset.Tie as tie
-use Rattle.controller.proofs.orders.obey_reset.Reads as reads
-use Rattle.controller.proofs.orders.obey_reset.Lts as lts
-use Rattle.controller.proofs.orders.both.Reads as both-reads
-use Rattle.controller.proofs.orders.with_hot.Reads as with-hot-reads
-use Rattle.inputs.proofs.emergency.Reads as emergency-reads
 
 emergency-requires : tie.Need-emergency-requires
 emergency-requires c κs = search needs
@@ -23,7 +19,8 @@ returns : tie.Need-returns
 returns c =
     let q = c .before .before .before .before .before .before .before .before .before .before .args .c in
     c .with-hot .ensures ∙ ap (λ (b : Bool). withHot q (resetBy (q .hot) b))
-    (c .before .before .before .before .both .ensures ∙ ap (λ (x : Bool). q .hot .flags .emergency && x) (c .before .before .before .before .before .emergency .ensures))
+    (c .before .before .before .before .both .ensures ∙ ap (λ (x : Bool). q .hot .flags .emergency && x)
+    (c .before .before .before .before .before .emergency .ensures))
 
 pub obey-reset-spec : {M : Type 1} → statement M
 obey-reset-spec = tie.close (tie.spec emergency-requires both-requires with-hot-requires returns)

@@ -1,14 +1,10 @@
+-- `obey_start` meets its contract: each return, by the tests and the answers that led there. Assumes nothing.
 use borrow.Author.Needs.{needs}
 use mathlib.Core.Path.{sym, ap, _∙_}
 use Rattle.laws.proofs.Pick.{on-true, on-false}
 use Rattle.controller.specs.Orders.{withHot}
 use Rattle.controller.proofs.orders.obey_start.Statement.{statement}
 use Rattle.controller.proofs.orders.obey_start.Tie as tie
-use Rattle.controller.proofs.orders.obey_start.Reads as reads
-use Rattle.controller.proofs.orders.obey_start.Lts as lts
-use Rattle.controller.proofs.orders.stores.Reads as stores-reads
-use Rattle.controller.proofs.orders.with_hot.Reads as with-hot-reads
-use Rattle.controller.proofs.start.begun.Reads as begun-reads
 
 stores-requires : tie.Need-stores-requires
 stores-requires c κs = search needs
@@ -20,7 +16,8 @@ with-hot-requires : tie.Need-with-hot-requires
 with-hot-requires c κs = search needs
 
 returns : tie.Need-returns
-returns c = on-true _ _ _ _ (sym (c .before .before .before .stores .ensures) ∙ c .before .before .if1 .taken) (c .with-hot .ensures)
+returns c = on-true _ _ _ _ (sym (c .before .before .before .stores .ensures) ∙ c .before .before .if1 .taken)
+    (c .with-hot .ensures)
 
 begun-requires : tie.Need-begun-requires
 begun-requires c κs = search needs
@@ -31,7 +28,8 @@ with-hot-requires-2 c κs = search needs
 returns-2 : tie.Need-returns-2
 returns-2 c =
     let q = c .before .before .before .before .before .before .before .before .args .c in
-    on-false _ _ _ _ (sym (c .before .before .before .before .before .stores .ensures) ∙ c .before .before .before .before .if1 .left)
+    on-false _ _ _ _ (sym (c .before .before .before .before .before .stores .ensures) ∙
+    c .before .before .before .before .if1 .left)
     (c .with-hot2 .ensures ∙ ap (withHot q) (c .before .begun .ensures))
 
 pub obey-start-spec : {M : Type 1} → statement M

@@ -1,14 +1,10 @@
+-- `set_polarity` meets its contract: each return, by the tests and the answers that led there. Assumes nothing.
 use borrow.Author.Needs.{needs}
 use mathlib.Core.Path.{ap, _∙_}
 use Rattle.controller.specs.declared.Controller.{Controller}
 use Rattle.controller.specs.Orders.{withHot, withSettings, withWires, polarized}
 use Rattle.controller.proofs.orders.set_polarity.Statement.{statement}
 use Rattle.controller.proofs.orders.set_polarity.Tie as tie
-use Rattle.controller.proofs.orders.set_polarity.Reads as reads
-use Rattle.controller.proofs.orders.set_polarity.Lts as lts
-use Rattle.controller.proofs.orders.with_hot.Reads as with-hot-reads
-use Rattle.controller.proofs.orders.with_settings.Reads as with-settings-reads
-use Rattle.outputs.proofs.axis_cells.Reads as axis-cells-reads
 
 axis-cells-requires : tie.Need-axis-cells-requires
 axis-cells-requires c κs = search needs

@@ -1,12 +1,9 @@
+-- `start_line` meets its contract: each return, by the tests and the answers that led there. Assumes nothing.
 use borrow.Author.Needs.{needs}
 use mathlib.Core.Path.{refl, sym, _∙_}
 use Rattle.laws.proofs.Pick.{on-true, on-false}
 use Rattle.controller.proofs.orders.start_line.Statement.{statement}
 use Rattle.controller.proofs.orders.start_line.Tie as tie
-use Rattle.controller.proofs.orders.start_line.Reads as reads
-use Rattle.controller.proofs.orders.start_line.Lts as lts
-use Rattle.controller.proofs.orders.stores.Reads as stores-reads
-use Rattle.controller.proofs.start.start_number.Reads as start-number-reads
 
 returns : tie.Need-returns
 returns c = search needs
@@ -15,13 +12,16 @@ stores-requires : tie.Need-stores-requires
 stores-requires c κs = search needs
 
 returns-2 : tie.Need-returns-2
-returns-2 c = on-false _ _ _ _ (c .before .before .if1 .left) (on-true _ _ _ _ (sym (c .before .stores .ensures) ∙ c .if2 .taken) refl)
+returns-2 c = on-false _ _ _ _ (c .before .before .if1 .left)
+    (on-true _ _ _ _ (sym (c .before .stores .ensures) ∙ c .if2 .taken) refl)
 
 start-number-requires : tie.Need-start-number-requires
 start-number-requires c κs = search needs
 
 returns-3 : tie.Need-returns-3
-returns-3 c = on-false _ _ _ _ (c .before .before .before .before .before .if1 .left) (on-false _ _ _ _ (sym (c .before .before .before .before .stores .ensures) ∙ c .before .before .before .if2 .left) (c .start-number .ensures))
+returns-3 c = on-false _ _ _ _ (c .before .before .before .before .before .if1 .left)
+    (on-false _ _ _ _ (sym (c .before .before .before .before .stores .ensures) ∙ c .before .before .before .if2 .left)
+    (c .start-number .ensures))
 
 pub start-line-spec : {M : Type 1} → statement M
 start-line-spec =

@@ -1,3 +1,4 @@
+-- `turned` meets its contract: each return, by the tests and the answers that led there. Assumes nothing.
 use borrow.Author.Needs.{needs}
 use mathlib.Core.Bool.{Bool}
 use mathlib.Core.Path.{refl, ap, _∙_}
@@ -5,10 +6,6 @@ use Rattle.laws.proofs.Pick.{on-lt, on-ge}
 use Rattle.controller.specs.Orders.{withHot, turnedBy}
 use Rattle.controller.proofs.orders.turned.Statement.{statement}
 use Rattle.controller.proofs.orders.turned.Tie as tie
-use Rattle.controller.proofs.orders.turned.Reads as reads
-use Rattle.controller.proofs.orders.turned.Lts as lts
-use Rattle.controller.proofs.hot.either.Reads as either-reads
-use Rattle.controller.proofs.orders.with_hot.Reads as with-hot-reads
 
 returns : tie.Need-returns
 returns c = on-lt _ _ _ _ _ (c .if1 .taken) refl

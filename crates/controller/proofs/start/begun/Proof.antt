@@ -1,10 +1,8 @@
+-- `begun` meets its contract: each return, by the tests and the answers that led there. Assumes nothing.
 use borrow.Author.Needs.{needs}
 use Rattle.controller.specs.Inner.{begunWith}
 use Rattle.controller.proofs.start.begun.Statement.{statement}
 use Rattle.controller.proofs.start.begun.Tie as tie
-use Rattle.controller.proofs.start.begun.Reads as reads
-use Rattle.controller.proofs.start.begun.Lts as lts
-use Rattle.outputs.proofs.axis_cells.Reads as axis-cells-reads
 
 mul-t19 : tie.Need-mul-t19
 mul-t19 c = search needs

@@ -1,3 +1,4 @@
+-- `counted` meets its contract: each return, by the tests and the answers that led there. Assumes nothing.
 use borrow.Author.Needs.{needs}
 use native.Mathlib.Omega.{arith}
 use Prim.Native.Nat.{_-_}
@@ -5,8 +6,6 @@ use mathlib.Core.Path.{_≡_}
 use Rattle.controller.specs.Inner.{withPause}
 use Rattle.controller.proofs.start.counted.Statement.{statement}
 use Rattle.controller.proofs.start.counted.Tie as tie
-use Rattle.controller.proofs.start.counted.Reads as reads
-use Rattle.controller.proofs.start.counted.Lts as lts
 
 returns : tie.Need-returns
 returns c =

@@ -1,3 +1,4 @@
+-- `due` meets its contract: each return, by the tests and the answers that led there. Assumes nothing.
 use borrow.Author.Needs.{needs}
 use Prim.Native.Nat.{ℕ}
 use mathlib.Core.Path.{ap, _∙_}
@@ -5,11 +6,6 @@ use Rattle.laws.proofs.Pick.{on-eq, on-ne}
 use Rattle.controller.specs.Inner.{begunOf, failedOf, dueBy}
 use Rattle.controller.proofs.start.due.Statement.{statement}
 use Rattle.controller.proofs.start.due.Tie as tie
-use Rattle.controller.proofs.start.due.Reads as reads
-use Rattle.controller.proofs.start.due.Lts as lts
-use Rattle.controller.proofs.start.begun.Reads as begun-reads
-use Rattle.controller.proofs.start.failed.Reads as failed-reads
-use Rattle.controller.proofs.start.start_number.Reads as start-number-reads
 
 start-number-requires : tie.Need-start-number-requires
 start-number-requires c κs = search needs
@@ -32,7 +28,8 @@ returns-2 : tie.Need-returns-2
 returns-2 c =
     let q = c .before .before .before .args in
     let n = c .before .before .start-number in
-    on-ne (n .result) 0 _ (record { hot = begunOf (q .next) (q .settings .polarity) (q .switch) (q .hot) (q .master); number = 0 }) _
+    on-ne (n .result) 0 _ (record
+    { hot = begunOf (q .next) (q .settings .polarity) (q .switch) (q .hot) (q .master); number = 0 }) _
     (c .before .if1 .left) (λ i. record { hot = c .failed .ensures i; number = n .result })
     ∙ ap (λ (x : ℕ). dueBy (q .next) (q .settings .polarity) (q .switch) (q .hot) (q .master) x) (n .ensures)
 

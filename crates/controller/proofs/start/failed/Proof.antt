@@ -1,10 +1,8 @@
+-- `failed` meets its contract: each return, by the tests and the answers that led there. Assumes nothing.
 use borrow.Author.Needs.{needs}
 use Rattle.controller.specs.Inner.{failedBy}
 use Rattle.controller.proofs.start.failed.Statement.{statement}
 use Rattle.controller.proofs.start.failed.Tie as tie
-use Rattle.controller.proofs.start.failed.Reads as reads
-use Rattle.controller.proofs.start.failed.Lts as lts
-use Rattle.controller.proofs.hot.either.Reads as either-reads
 
 either-requires : tie.Need-either-requires
 either-requires c κs = search needs

@@ -1,8 +1,7 @@
+-- `leaves` meets its contract: each return, by the tests and the answers that led there. Assumes nothing.
 use borrow.Author.Needs.{needs}
 use Rattle.controller.proofs.start.leaves.Statement.{statement}
 use Rattle.controller.proofs.start.leaves.Tie as tie
-use Rattle.controller.proofs.start.leaves.Reads as reads
-use Rattle.controller.proofs.start.leaves.Lts as lts
 
 returns : tie.Need-returns
 returns c = rw (c .before .if1 .taken)

@@ -1,9 +1,7 @@
+-- `leaves_at` meets its contract: each return, by the tests and the answers that led there. Assumes nothing.
 use borrow.Author.Needs.{needs}
 use Rattle.controller.proofs.start.leaves_at.Statement.{statement}
 use Rattle.controller.proofs.start.leaves_at.Tie as tie
-use Rattle.controller.proofs.start.leaves_at.Reads as reads
-use Rattle.controller.proofs.start.leaves_at.Lts as lts
-use Rattle.controller.proofs.start.leaves.Reads as leaves-reads
 
 mul-position : tie.Need-mul-position
 mul-position c = search needs

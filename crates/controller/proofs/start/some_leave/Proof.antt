@@ -1,12 +1,10 @@
+-- `some_leave` meets its contract: each return, by the tests and the answers that led there. Assumes nothing.
 use borrow.Author.Needs.{needs}
 use mathlib.Core.Path.{sym, _∙_}
 use Rattle.laws.proofs.Some.{some-0, some-1, some-2, some-3, some-4}
 use Rattle.controller.specs.Inner.{leavesAt}
 use Rattle.controller.proofs.start.some_leave.Statement.{statement}
 use Rattle.controller.proofs.start.some_leave.Tie as tie
-use Rattle.controller.proofs.start.some_leave.Reads as reads
-use Rattle.controller.proofs.start.some_leave.Lts as lts
-use Rattle.controller.proofs.start.leaves_at.Reads as leaves-at-reads
 
 leaves-at-requires : tie.Need-leaves-at-requires
 leaves-at-requires c κs = search needs
@@ -21,32 +19,50 @@ leaves-at-requires-2 c κs = search needs
 
 returns-2 : tie.Need-returns-2
 returns-2 c =
-    some-1 (leavesAt (c .before .before .before .before .args .next) (c .before .before .before .before .args .counters))
-    (sym (c .before .before .before .leaves-at .ensures) ∙ c .before .before .if1 .left) (sym (c .before .leaves-at2 .ensures) ∙ c .if2 .taken)
+    some-1 (leavesAt (c .before .before .before .before .args .next)
+    (c .before .before .before .before .args .counters))
+    (sym (c .before .before .before .leaves-at .ensures) ∙ c .before .before .if1 .left)
+    (sym (c .before .leaves-at2 .ensures) ∙ c .if2 .taken)
 
 leaves-at-requires-3 : tie.Need-leaves-at-requires-3
 leaves-at-requires-3 c κs = search needs
 
 returns-3 : tie.Need-returns-3
 returns-3 c =
-    some-2 (leavesAt (c .before .before .before .before .before .before .args .next) (c .before .before .before .before .before .before .args .counters))
-    (sym (c .before .before .before .before .before .leaves-at .ensures) ∙ c .before .before .before .before .if1 .left) (sym (c .before .before .before .leaves-at2 .ensures) ∙ c .before .before .if2 .left) (sym (c .before .leaves-at3 .ensures) ∙ c .if3 .taken)
+    some-2 (leavesAt (c .before .before .before .before .before .before .args .next)
+    (c .before .before .before .before .before .before .args .counters))
+    (sym (c .before .before .before .before .before .leaves-at .ensures) ∙
+    c .before .before .before .before .if1 .left)
+    (sym (c .before .before .before .leaves-at2 .ensures) ∙ c .before .before .if2 .left)
+    (sym (c .before .leaves-at3 .ensures) ∙ c .if3 .taken)
 
 leaves-at-requires-4 : tie.Need-leaves-at-requires-4
 leaves-at-requires-4 c κs = search needs
 
 returns-4 : tie.Need-returns-4
 returns-4 c =
-    some-3 (leavesAt (c .before .before .before .before .before .before .before .before .args .next) (c .before .before .before .before .before .before .before .before .args .counters))
-    (sym (c .before .before .before .before .before .before .before .leaves-at .ensures) ∙ c .before .before .before .before .before .before .if1 .left) (sym (c .before .before .before .before .before .leaves-at2 .ensures) ∙ c .before .before .before .before .if2 .left) (sym (c .before .before .before .leaves-at3 .ensures) ∙ c .before .before .if3 .left) (sym (c .before .leaves-at4 .ensures) ∙ c .if4 .taken)
+    some-3 (leavesAt (c .before .before .before .before .before .before .before .before .args .next)
+    (c .before .before .before .before .before .before .before .before .args .counters))
+    (sym (c .before .before .before .before .before .before .before .leaves-at .ensures) ∙
+    c .before .before .before .before .before .before .if1 .left)
+    (sym (c .before .before .before .before .before .leaves-at2 .ensures) ∙
+    c .before .before .before .before .if2 .left)
+    (sym (c .before .before .before .leaves-at3 .ensures) ∙ c .before .before .if3 .left)
+    (sym (c .before .leaves-at4 .ensures) ∙ c .if4 .taken)
 
 leaves-at-requires-5 : tie.Need-leaves-at-requires-5
 leaves-at-requires-5 c κs = search needs
 
 returns-5 : tie.Need-returns-5
 returns-5 c =
-    some-4 (leavesAt (c .before .before .before .before .before .before .before .before .before .args .next) (c .before .before .before .before .before .before .before .before .before .args .counters))
-    (sym (c .before .before .before .before .before .before .before .before .leaves-at .ensures) ∙ c .before .before .before .before .before .before .before .if1 .left) (sym (c .before .before .before .before .before .before .leaves-at2 .ensures) ∙ c .before .before .before .before .before .if2 .left) (sym (c .before .before .before .before .leaves-at3 .ensures) ∙ c .before .before .before .if3 .left) (sym (c .before .before .leaves-at4 .ensures) ∙ c .before .if4 .left) (c .leaves-at5 .ensures)
+    some-4 (leavesAt (c .before .before .before .before .before .before .before .before .before .args .next)
+    (c .before .before .before .before .before .before .before .before .before .args .counters))
+    (sym (c .before .before .before .before .before .before .before .before .leaves-at .ensures) ∙
+    c .before .before .before .before .before .before .before .if1 .left)
+    (sym (c .before .before .before .before .before .before .leaves-at2 .ensures) ∙
+    c .before .before .before .before .before .if2 .left)
+    (sym (c .before .before .before .before .leaves-at3 .ensures) ∙ c .before .before .before .if3 .left)
+    (sym (c .before .before .leaves-at4 .ensures) ∙ c .before .if4 .left) (c .leaves-at5 .ensures)
 
 pub some-leave-spec : {M : Type 1} → statement M
 some-leave-spec =

@@ -1,14 +1,9 @@
+-- `start_number` meets its contract: each return, by the tests and the answers that led there. Assumes nothing.
 use borrow.Author.Needs.{needs}
 use mathlib.Core.Path.{refl, sym, _∙_}
 use Rattle.laws.proofs.Pick.{on-true, on-false, on-eq, on-ne}
 use Rattle.controller.proofs.start.start_number.Statement.{statement}
 use Rattle.controller.proofs.start.start_number.Tie as tie
-use Rattle.controller.proofs.start.start_number.Reads as reads
-use Rattle.controller.proofs.start.start_number.Lts as lts
-use Rattle.controller.proofs.start.longer.Reads as longer-reads
-use Rattle.controller.proofs.start.some_leave.Reads as some-leave-reads
-use Rattle.inputs.proofs.blocked.Reads as blocked-reads
-use Rattle.inputs.proofs.sensor.Reads as sensor-reads
 
 returns : tie.Need-returns
 returns c = on-true _ _ _ _ (c .if1 .taken) refl
@@ -33,13 +28,15 @@ longer-requires c κs = search needs
 returns-3 : tie.Need-returns-3
 returns-3 c =
     on-false _ _ _ _ (c .before .before .before .before .before .before .if1 .left)
-    (on-false _ _ _ _ (sym (c .before .before .before .before .before .sensor .ensures) ∙ c .before .before .before .before .if2 .left)
+    (on-false _ _ _ _ (sym (c .before .before .before .before .before .sensor .ensures) ∙
+    c .before .before .before .before .if2 .left)
     (on-true _ _ _ _ (sym (c .before .longer .ensures) ∙ c .if3 .taken) refl))
 
 returns-4 : tie.Need-returns-4
 returns-4 c =
     on-false _ _ _ _ (c .before .before .before .before .before .before .before .if1 .left)
-    (on-false _ _ _ _ (sym (c .before .before .before .before .before .before .sensor .ensures) ∙ c .before .before .before .before .before .if2 .left)
+    (on-false _ _ _ _ (sym (c .before .before .before .before .before .before .sensor .ensures) ∙
+    c .before .before .before .before .before .if2 .left)
     (on-false _ _ _ _ (sym (c .before .before .longer .ensures) ∙ c .before .if3 .left)
     (on-eq _ _ _ _ _ (c .if4 .taken) refl)))
 
@@ -49,7 +46,8 @@ blocked-requires c κs = search needs
 returns-5 : tie.Need-returns-5
 returns-5 c =
     on-false _ _ _ _ (c .before .before .before .before .before .before .before .before .before .if1 .left)
-    (on-false _ _ _ _ (sym (c .before .before .before .before .before .before .before .before .sensor .ensures) ∙ c .before .before .before .before .before .before .before .if2 .left)
+    (on-false _ _ _ _ (sym (c .before .before .before .before .before .before .before .before .sensor .ensures) ∙
+    c .before .before .before .before .before .before .before .if2 .left)
     (on-false _ _ _ _ (sym (c .before .before .before .before .longer .ensures) ∙ c .before .before .before .if3 .left)
     (on-ne _ _ _ _ _ (c .before .before .if4 .left)
     (on-true _ _ _ _ (sym (c .before .blocked .ensures) ∙ c .if5 .taken) refl))))
@@ -59,18 +57,26 @@ some-leave-requires c κs = search needs
 
 returns-6 : tie.Need-returns-6
 returns-6 c =
-    on-false _ _ _ _ (c .before .before .before .before .before .before .before .before .before .before .before .before .if1 .left)
-    (on-false _ _ _ _ (sym (c .before .before .before .before .before .before .before .before .before .before .before .sensor .ensures) ∙ c .before .before .before .before .before .before .before .before .before .before .if2 .left)
-    (on-false _ _ _ _ (sym (c .before .before .before .before .before .before .before .longer .ensures) ∙ c .before .before .before .before .before .before .if3 .left)
+    on-false _ _ _ _
+    (c .before .before .before .before .before .before .before .before .before .before .before .before .if1 .left)
+    (on-false _ _ _ _ (sym
+    (c .before .before .before .before .before .before .before .before .before .before .before .sensor .ensures) ∙
+    c .before .before .before .before .before .before .before .before .before .before .if2 .left)
+    (on-false _ _ _ _ (sym (c .before .before .before .before .before .before .before .longer .ensures) ∙
+    c .before .before .before .before .before .before .if3 .left)
     (on-ne _ _ _ _ _ (c .before .before .before .before .before .if4 .left)
     (on-false _ _ _ _ (sym (c .before .before .before .before .blocked .ensures) ∙ c .before .before .before .if5 .left)
     (on-true _ _ _ _ (sym (c .before .some-leave .ensures) ∙ c .if6 .taken) refl)))))
 
 returns-7 : tie.Need-returns-7
 returns-7 c =
-    on-false _ _ _ _ (c .before .before .before .before .before .before .before .before .before .before .before .before .if1 .left)
-    (on-false _ _ _ _ (sym (c .before .before .before .before .before .before .before .before .before .before .before .sensor .ensures) ∙ c .before .before .before .before .before .before .before .before .before .before .if2 .left)
-    (on-false _ _ _ _ (sym (c .before .before .before .before .before .before .before .longer .ensures) ∙ c .before .before .before .before .before .before .if3 .left)
+    on-false _ _ _ _
+    (c .before .before .before .before .before .before .before .before .before .before .before .before .if1 .left)
+    (on-false _ _ _ _ (sym
+    (c .before .before .before .before .before .before .before .before .before .before .before .sensor .ensures) ∙
+    c .before .before .before .before .before .before .before .before .before .before .if2 .left)
+    (on-false _ _ _ _ (sym (c .before .before .before .before .before .before .before .longer .ensures) ∙
+    c .before .before .before .before .before .before .if3 .left)
     (on-ne _ _ _ _ _ (c .before .before .before .before .before .if4 .left)
     (on-false _ _ _ _ (sym (c .before .before .before .before .blocked .ensures) ∙ c .before .before .before .if5 .left)
     (on-false _ _ _ _ (sym (c .before .some-leave .ensures) ∙ c .if6 .left) refl)))))

@@ -1,3 +1,4 @@
+-- `lined` meets its contract: each return, by the tests and the answers that led there. Assumes nothing.
 use borrow.Author.Needs.{needs}
 use mathlib.Core.Path.{subst}
 use denote.Ref.{now}
@@ -5,11 +6,6 @@ use Rattle.line.specs.Fits.{JudgedFits}
 use Rattle.controller.proofs.ToldLaws.{lined-refused, lined-obeyed, lined-numbered}
 use Rattle.controller.proofs.told.lined.Statement.{statement}
 use Rattle.controller.proofs.told.lined.Tie as tie
-use Rattle.controller.proofs.told.lined.Reads as reads
-use Rattle.controller.proofs.told.lined.Lts as lts
-use Rattle.controller.proofs.orders.number.Reads as number-reads
-use Rattle.controller.proofs.told.obey.Reads as obey-reads
-use Rattle.controller.proofs.told.refuse.Reads as refuse-reads
 
 enum-known-judged : tie.Need-enum-known-judged
 enum-known-judged c = search needs
@@ -21,10 +17,19 @@ enum-known-judged-2 : tie.Need-enum-known-judged-2
 enum-known-judged-2 c = search needs
 
 number-requires : tie.Need-number-requires
-number-requires c κs = (subst JudgedFits (c .before .judged2 .given .1) (c .before .before .before .before .pre .1) .command, c .before .before .before .before .pre .2)
+number-requires c κs = (
+  subst JudgedFits (c .before .judged2 .given .1)
+      (c .before .before .before .before .pre .1) .command,
+  c .before .before .before .before .pre .2,
+)
 
 obey-requires : tie.Need-obey-requires
-obey-requires c κs = (c .before .before .before .before .before .before .before .pre .0, subst JudgedFits (c .before .before .before .before .judged2 .given .1) (c .before .before .before .before .before .before .before .pre .1) .command)
+obey-requires c κs = (
+  c .before .before .before .before .before .before .before .pre .0,
+  subst JudgedFits
+      (c .before .before .before .before .judged2 .given .1)
+      (c .before .before .before .before .before .before .before .pre .1) .command,
+)
 
 same-length : tie.Need-same-length
 same-length c = search needs
@@ -33,7 +38,9 @@ returns : tie.Need-returns
 returns c =
     let q = c .before .before .before .before .before .before .before .before .before .before .args in
     let w = c .before .before .obey in
-    lined-obeyed (q .c) (q .ident) (now (q .buf)) (q .silent) (q .judged) _ _ _ _ _ (c .before .before .before .before .before .before .before .judged2 .given .1) (c .before .before .before .before .before .number .ensures) (c .before .before .before .before .if1 .taken)
+    lined-obeyed (q .c) (q .ident) (now (q .buf)) (q .silent) (q .judged) _ _ _ _ _
+    (c .before .before .before .before .before .before .before .judged2 .given .1)
+    (c .before .before .before .before .before .number .ensures) (c .before .before .before .before .if1 .taken)
     (w .ensures .0) (w .ensures .1)
 
 refuse-requires-2 : tie.Need-refuse-requires-2
@@ -46,7 +53,8 @@ returns-2 : tie.Need-returns-2
 returns-2 c =
     let q = c .before .before .before .before .before .before .before .before .args in
     let w = c .before .before .refuse in
-    lined-refused (q .c) (q .ident) (now (q .buf)) (q .silent) (q .judged) _ _ _ (c .before .before .before .before .before .judged .given .1) (w .ensures .0) (w .ensures .1)
+    lined-refused (q .c) (q .ident) (now (q .buf)) (q .silent) (q .judged) _ _ _
+    (c .before .before .before .before .before .judged .given .1) (w .ensures .0) (w .ensures .1)
 
 same-length-3 : tie.Need-same-length-3
 same-length-3 c = search needs
@@ -55,7 +63,9 @@ returns-3 : tie.Need-returns-3
 returns-3 c =
     let q = c .before .before .before .before .before .before .before .before .before .before .args in
     let w = c .before .before .refuse2 in
-    lined-numbered (q .c) (q .ident) (now (q .buf)) (q .silent) (q .judged) _ _ _ _ _ (c .before .before .before .before .before .before .before .judged2 .given .1) (c .before .before .before .before .before .number .ensures) (c .before .before .before .before .if1 .left)
+    lined-numbered (q .c) (q .ident) (now (q .buf)) (q .silent) (q .judged) _ _ _ _ _
+    (c .before .before .before .before .before .before .before .judged2 .given .1)
+    (c .before .before .before .before .before .number .ensures) (c .before .before .before .before .if1 .left)
     (w .ensures .0) (w .ensures .1)
 
 pub lined-spec : {M : Type 1} → statement M

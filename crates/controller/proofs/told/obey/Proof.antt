@@ -1,3 +1,4 @@
+-- `obey` meets its contract: each return, by the tests and the answers that led there. Assumes nothing.
 use borrow.Author.Needs.{needs}
 use mathlib.Core.Path.{ap, _∙_}
 use denote.Ref.{now}
@@ -5,12 +6,6 @@ use Rattle.controller.specs.Orders.{zeroed}
 use Rattle.controller.proofs.ToldLaws.{obey-silent, obey-told}
 use Rattle.controller.proofs.told.obey.Statement.{statement}
 use Rattle.controller.proofs.told.obey.Tie as tie
-use Rattle.controller.proofs.told.obey.Reads as reads
-use Rattle.controller.proofs.told.obey.Lts as lts
-use Rattle.controller.proofs.orders.does.Reads as does-reads
-use Rattle.controller.proofs.orders.zero_watch.Reads as zero-watch-reads
-use Rattle.controller.proofs.told.readings.Reads as readings-reads
-use Rattle.reply.proofs.write_reply.Reads as write-reply-reads
 
 does-requires : tie.Need-does-requires
 does-requires c κs = search needs
@@ -37,8 +32,13 @@ returns-2 : tie.Need-returns-2
 returns-2 c =
     let q = c .before .before .before .before .before .before .before .before .before .args in
     let w = c .before .before .write-reply in
-    obey-told (q .c) (q .ident) (now (q .buf)) (q .command) (q .digits) _ _ (c .before .before .before .before .readings .result) _ _ (c .before .before .before .before .before .before .before .before .before .pre .0) (c .before .before .before .before .before .if1 .left)
-    (c .before .before .before .before .before .before .zero-watch .ensures ∙ ap zeroed (c .before .before .before .before .before .before .before .does .ensures)) (c .before .before .before .before .readings .ensures) (w .ensures .0) (w .ensures .1)
+    obey-told (q .c) (q .ident) (now (q .buf)) (q .command) (q .digits) _ _
+    (c .before .before .before .before .readings .result) _ _
+    (c .before .before .before .before .before .before .before .before .before .pre .0)
+    (c .before .before .before .before .before .if1 .left)
+    (c .before .before .before .before .before .before .zero-watch .ensures ∙ ap zeroed
+    (c .before .before .before .before .before .before .before .does .ensures))
+    (c .before .before .before .before .readings .ensures) (w .ensures .0) (w .ensures .1)
 
 pub obey-spec : {M : Type 1} → statement M
 obey-spec =

@@ -1,9 +1,7 @@
+-- `readings` meets its contract: each return, by the tests and the answers that led there. Assumes nothing.
 use borrow.Author.Needs.{needs}
 use Rattle.controller.proofs.told.readings.Statement.{statement}
 use Rattle.controller.proofs.told.readings.Tie as tie
-use Rattle.controller.proofs.told.readings.Reads as reads
-use Rattle.controller.proofs.told.readings.Lts as lts
-use Rattle.controller.proofs.told.status.Reads as status-reads
 
 status-requires : tie.Need-status-requires
 status-requires c κs = search needs

@@ -1,3 +1,4 @@
+-- `status` meets its contract: each return, by the tests and the answers that led there. Assumes nothing.
 use borrow.Author.Needs.{needs}
 use Prim.Native.Nat.{_+_}
 use mathlib.Core.Bool.{Bool}
@@ -6,12 +7,6 @@ use Rattle.laws.specs.Bits.{weight}
 use Rattle.controller.specs.Inner.{blockedIn}
 use Rattle.controller.proofs.told.status.Statement.{statement}
 use Rattle.controller.proofs.told.status.Tie as tie
-use Rattle.controller.proofs.told.status.Reads as reads
-use Rattle.controller.proofs.told.status.Lts as lts
-use Rattle.controller.proofs.hot.either.Reads as either-reads
-use Rattle.controller.proofs.told.bit.Reads as bit-reads
-use Rattle.controller.proofs.told.current.Reads as current-reads
-use Rattle.inputs.proofs.blocked.Reads as blocked-reads
 
 current-requires : tie.Need-current-requires
 current-requires c κs = search needs
@@ -63,14 +58,21 @@ add-result-6 c = search needs
 
 returns : tie.Need-returns
 returns c =
-    let h = c .before .before .before .before .before .before .before .before .before .before .before .before .before .before .before .before .before .before .before .args .c in
-    λ i. (c .before .before .before .before .before .before .bit .ensures .0 ∙ ap (λ (b : Bool). weight b 1) (c .before .before .before .before .before .before .before .either .ensures)) i
-    + c .before .before .before .before .before .bit2 .ensures .0 i
-    + c .before .before .before .before .bit3 .ensures .0 i
-    + c .before .before .before .bit4 .ensures .0 i
-    + (c .before .before .bit5 .ensures .0 ∙ ap (λ (b : Bool). weight b 16) (c .before .before .before .before .before .before .before .before .before .blocked .ensures ∙ ap (blockedIn (h .cold .settings) (h .hot .inputs)) (c .before .before .before .before .before .before .before .before .before .before .before .before .current .ensures))) i
-    + c .before .bit6 .ensures .0 i
-    + c .bit7 .ensures .0 i
+    let b6 = c .before in
+    let b5 = b6 .before in
+    let b4 = b5 .before in
+    let b3 = b4 .before in
+    let b2 = b3 .before in
+    let b1 = b2 .before in
+    let e = b1 .before in
+    let k = e .before .before in
+    let p = k .before .before .before in
+    let h = p .before .before .before .before .before .before .before .args .c in
+    λ i. (b1 .bit .ensures .0 ∙ ap (λ (x : Bool). weight x 1) (e .either .ensures)) i
+    + b2 .bit2 .ensures .0 i + b3 .bit3 .ensures .0 i + b4 .bit4 .ensures .0 i
+    + (b5 .bit5 .ensures .0 ∙ ap (λ (x : Bool). weight x 16)
+    (k .blocked .ensures ∙ ap (blockedIn (h .cold .settings) (h .hot .inputs)) (p .current .ensures))) i
+    + b6 .bit6 .ensures .0 i + c .bit7 .ensures .0 i
 
 pub status-spec : {M : Type 1} → statement M
 status-spec =

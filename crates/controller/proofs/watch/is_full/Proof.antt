@@ -1,8 +1,7 @@
+-- `is_full` meets its contract: each return, by the tests and the answers that led there. Assumes nothing.
 use borrow.Author.Tests.{lt-leb, le-leb}
 use Rattle.controller.proofs.watch.is_full.Statement.{statement}
 use Rattle.controller.proofs.watch.is_full.Tie as tie
-use Rattle.controller.proofs.watch.is_full.Reads as reads
-use Rattle.controller.proofs.watch.is_full.Lts as lts
 
 returns : tie.Need-returns
 returns c = rw (lt-leb _ _ (c .if1 .taken))

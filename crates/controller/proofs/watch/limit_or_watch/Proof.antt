@@ -1,11 +1,8 @@
+-- `limit_or_watch` meets its contract: each return, by the tests and the answers that led there. Assumes nothing.
 use borrow.Author.Needs.{needs}
 use mathlib.Core.Path.{sym, _∙_}
 use Rattle.controller.proofs.watch.limit_or_watch.Statement.{statement}
 use Rattle.controller.proofs.watch.limit_or_watch.Tie as tie
-use Rattle.controller.proofs.watch.limit_or_watch.Reads as reads
-use Rattle.controller.proofs.watch.limit_or_watch.Lts as lts
-use Rattle.controller.proofs.watch.is_full.Reads as is-full-reads
-use Rattle.inputs.proofs.blocked.Reads as blocked-reads
 
 blocked-requires : tie.Need-blocked-requires
 blocked-requires c κs = search needs

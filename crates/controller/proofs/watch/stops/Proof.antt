@@ -1,3 +1,4 @@
+-- `stops` meets its contract: each return, by the tests and the answers that led there. Assumes nothing.
 use borrow.Author.Needs.{needs}
 use mathlib.Core.Bool.{Bool, not, _||_}
 use mathlib.Core.Path.{refl, sym, ap, _∙_}
@@ -6,12 +7,6 @@ use Rattle.controller.specs.Inner.{stoppedWith}
 use Rattle.controller.proofs.StepLaws.{causes}
 use Rattle.controller.proofs.watch.stops.Statement.{statement}
 use Rattle.controller.proofs.watch.stops.Tie as tie
-use Rattle.controller.proofs.watch.stops.Reads as reads
-use Rattle.controller.proofs.watch.stops.Lts as lts
-use Rattle.controller.proofs.hot.either.Reads as either-reads
-use Rattle.controller.proofs.watch.has_cause.Reads as has-cause-reads
-use Rattle.controller.proofs.watch.limit_or_watch.Reads as limit-or-watch-reads
-use Rattle.inputs.proofs.sensor.Reads as sensor-reads
 
 returns : tie.Need-returns
 returns c = on-true _ _ _ _ (c .if1 .taken) refl
@@ -27,8 +22,15 @@ has-cause-requires c κs = search needs
 
 returns-2 : tie.Need-returns-2
 returns-2 c =
-    on-false _ _ _ _ (c .before .before .before .before .before .if1 .left)
-    (on-true _ _ _ _ (ap not (sym (causes (c .before .before .before .before .before .before .before .before .args .was .flags .emergency) (c .before .before .before .sensor .ensures) (c .before .before .limit-or-watch .ensures)) ∙ sym (c .before .has-cause .ensures)) ∙ c .if2 .taken) refl)
+    let h = c .before in
+    let l = h .before in
+    let s = l .before in
+    let q = s .before .before .before .before .before .args in
+    on-false _ _ _ _ (s .before .before .if1 .left)
+    (on-true _ _ _ _
+    (ap not (sym (causes (q .was .flags .emergency) (s .sensor .ensures) (l .limit-or-watch .ensures))
+    ∙ sym (h .has-cause .ensures)) ∙ c .if2 .taken)
+    refl)
 
 either-requires : tie.Need-either-requires
 either-requires c κs = search needs
@@ -38,12 +40,17 @@ either-requires-2 c κs = search needs
 
 returns-3 : tie.Need-returns-3
 returns-3 c =
-    let l = c .before .before .before .before .limit-or-watch in
-    let s = c .before .before .before .before .before .sensor in
-    on-false _ _ _ _ (c .before .before .before .before .before .before .before .if1 .left)
-    (on-false _ _ _ _ (ap not (sym (causes (c .before .before .before .before .before .before .before .before .before .before .args .was .flags .emergency) (c .before .before .before .before .before .sensor .ensures) (c .before .before .before .before .limit-or-watch .ensures)) ∙ sym (c .before .before .before .has-cause .ensures)) ∙ c .before .before .if2 .left)
-    (λ i. stoppedWith (c .before .before .before .before .before .before .before .before .before .before .args .was) ((c .before .either .ensures ∙ ap (λ (x : Bool). c .before .before .before .before .before .before .before .before .before .before .args .was .flags .stopped || x) (l .ensures)) i)
-    ((c .either2 .ensures ∙ ap (λ (x : Bool). c .before .before .before .before .before .before .before .before .before .before .args .was .flags .sensed || x) (s .ensures)) i)))
+    let h = c .before .before .before in
+    let l = h .before in
+    let s = l .before in
+    let q = s .before .before .before .before .before .args in
+    on-false _ _ _ _ (s .before .before .if1 .left)
+    (on-false _ _ _ _
+    (ap not (sym (causes (q .was .flags .emergency) (s .sensor .ensures) (l .limit-or-watch .ensures))
+    ∙ sym (h .has-cause .ensures)) ∙ c .before .before .if2 .left)
+    (λ i. stoppedWith (q .was)
+    ((c .before .either .ensures ∙ ap (λ (x : Bool). q .was .flags .stopped || x) (l .limit-or-watch .ensures)) i)
+    ((c .either2 .ensures ∙ ap (λ (x : Bool). q .was .flags .sensed || x) (s .sensor .ensures)) i)))
 
 pub stops-spec : {M : Type 1} → statement M
 stops-spec =

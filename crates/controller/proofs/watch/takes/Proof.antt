@@ -1,3 +1,4 @@
+-- `takes` meets its contract: each return, by the tests and the answers that led there. Assumes nothing.
 use borrow.Author.Needs.{needs}
 use Prim.Native.Nat.{ℕ, _/_}
 use mathlib.Core.Bool.{Bool, _||_}
@@ -5,12 +6,6 @@ use mathlib.Core.Path.{sym, ap, _∙_}
 use Rattle.controller.specs.Inner.{isFull, takesBy}
 use Rattle.controller.proofs.watch.takes.Statement.{statement}
 use Rattle.controller.proofs.watch.takes.Tie as tie
-use Rattle.controller.proofs.watch.takes.Reads as reads
-use Rattle.controller.proofs.watch.takes.Lts as lts
-use Rattle.controller.proofs.hot.either.Reads as either-reads
-use Rattle.controller.proofs.watch.is_full.Reads as is-full-reads
-use Rattle.controller.proofs.watch.raised.Reads as raised-reads
-use Rattle.inputs.proofs.emergency.Reads as emergency-reads
 
 emergency-requires : tie.Need-emergency-requires
 emergency-requires c κs = search needs
@@ -27,14 +22,21 @@ is-full-requires c κs = search needs
 returns : tie.Need-returns
 returns c =
     let q = c .before .before .before .before .before .before .before .before .before .args in
-    let e = sym (c .before .before .before .is-full .ensures ∙ ap (λ (n : ℕ). isFull n (q .settings .watch / 2)) (c .before .before .before .before .before .raised .ensures)) ∙ c .before .before .if1 .taken in
-    λ i. takesBy (q .was) (q .word) (c .before .before .before .before .before .raised .ensures i) ((c .before .before .before .before .before .before .either .ensures ∙ ap (λ (x : Bool). q .was .flags .emergency || x) (c .before .before .before .before .before .before .before .emergency .ensures)) i) (sym e i)
+    let e = sym (c .before .before .before .is-full .ensures ∙ ap (λ (n : ℕ). isFull n (q .settings .watch / 2))
+    (c .before .before .before .before .before .raised .ensures)) ∙ c .before .before .if1 .taken in
+    λ i. takesBy (q .was) (q .word) (c .before .before .before .before .before .raised .ensures i)
+    ((c .before .before .before .before .before .before .either .ensures ∙ ap
+    (λ (x : Bool). q .was .flags .emergency || x)
+    (c .before .before .before .before .before .before .before .emergency .ensures)) i) (sym e i)
 
 returns-2 : tie.Need-returns-2
 returns-2 c =
     let q = c .before .before .before .before .before .before .before .args in
-    let e = sym (c .before .is-full .ensures ∙ ap (λ (n : ℕ). isFull n (q .settings .watch / 2)) (c .before .before .before .raised .ensures)) ∙ c .if1 .left in
-    λ i. takesBy (q .was) (q .word) (c .before .before .before .raised .ensures i) ((c .before .before .before .before .either .ensures ∙ ap (λ (x : Bool). q .was .flags .emergency || x) (c .before .before .before .before .before .emergency .ensures)) i) (sym e i)
+    let e = sym (c .before .is-full .ensures ∙ ap (λ (n : ℕ). isFull n (q .settings .watch / 2))
+    (c .before .before .before .raised .ensures)) ∙ c .if1 .left in
+    λ i. takesBy (q .was) (q .word) (c .before .before .before .raised .ensures i)
+    ((c .before .before .before .before .either .ensures ∙ ap (λ (x : Bool). q .was .flags .emergency || x)
+    (c .before .before .before .before .before .emergency .ensures)) i) (sym e i)
 
 pub takes-spec : {M : Type 1} → statement M
 takes-spec =

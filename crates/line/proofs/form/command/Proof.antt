@@ -3,8 +3,6 @@ use borrow.Author.Needs.{needs}
 use Rattle.laws.proofs.Pick.{picks}
 use Rattle.line.proofs.form.command.Statement.{statement}
 use Rattle.line.proofs.form.command.Tie as tie
-use Rattle.line.proofs.form.command.Reads as reads
-use Rattle.line.proofs.form.command.Lts as lts
 
 enum-told : tie.Need-enum-told
 enum-told c = search needs

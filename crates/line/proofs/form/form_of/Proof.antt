@@ -3,11 +3,6 @@ use borrow.Author.Needs.{needs}
 use Rattle.laws.proofs.Pick.{picks}
 use Rattle.line.proofs.form.form_of.Statement.{statement}
 use Rattle.line.proofs.form.form_of.Tie as tie
-use Rattle.line.proofs.form.form_of.Reads as reads
-use Rattle.line.proofs.form.form_of.Lts as lts
-use Rattle.line.proofs.form.form_p.Reads as form-p-reads
-use Rattle.line.proofs.form.form_q.Reads as form-q-reads
-use Rattle.line.proofs.form.form_small_q.Reads as form-small-q-reads
 
 returns : tie.Need-returns
 returns c = search picks depth 9

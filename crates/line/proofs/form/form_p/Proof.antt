@@ -2,8 +2,6 @@
 use Rattle.laws.proofs.Pick.{picks}
 use Rattle.line.proofs.form.form_p.Statement.{statement}
 use Rattle.line.proofs.form.form_p.Tie as tie
-use Rattle.line.proofs.form.form_p.Reads as reads
-use Rattle.line.proofs.form.form_p.Lts as lts
 
 returns : tie.Need-returns
 returns c = search picks depth 11

@@ -2,8 +2,6 @@
 use Rattle.laws.proofs.Pick.{picks}
 use Rattle.line.proofs.form.form_q.Statement.{statement}
 use Rattle.line.proofs.form.form_q.Tie as tie
-use Rattle.line.proofs.form.form_q.Reads as reads
-use Rattle.line.proofs.form.form_q.Lts as lts
 
 returns : tie.Need-returns
 returns c = search picks depth 11

@@ -2,10 +2,6 @@
 use borrow.Author.Needs.{needs}
 use Rattle.line.proofs.form.has_count.Statement.{statement}
 use Rattle.line.proofs.form.has_count.Tie as tie
-use Rattle.line.proofs.form.has_count.Reads as reads
-use Rattle.line.proofs.form.has_count.Lts as lts
-use Rattle.line.proofs.form.none_or_six.Reads as none-or-six-reads
-use Rattle.line.proofs.form.within.Reads as within-reads
 
 enum-told : tie.Need-enum-told
 enum-told c = search needs

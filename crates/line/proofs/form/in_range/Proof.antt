@@ -2,11 +2,6 @@
 use borrow.Author.Needs.{needs}
 use Rattle.line.proofs.form.in_range.Statement.{statement}
 use Rattle.line.proofs.form.in_range.Tie as tie
-use Rattle.line.proofs.form.in_range.Reads as reads
-use Rattle.line.proofs.form.in_range.Lts as lts
-use Rattle.line.proofs.form.input_bits.Reads as input-bits-reads
-use Rattle.line.proofs.form.is_master.Reads as is-master-reads
-use Rattle.line.proofs.form.within.Reads as within-reads
 
 enum-told : tie.Need-enum-told
 enum-told c = search needs

@@ -2,8 +2,6 @@
 use borrow.Author.Tests.{eq-eqb, ne-eqb}
 use Rattle.line.proofs.form.input_bits.Statement.{statement}
 use Rattle.line.proofs.form.input_bits.Tie as tie
-use Rattle.line.proofs.form.input_bits.Reads as reads
-use Rattle.line.proofs.form.input_bits.Lts as lts
 
 returns : tie.Need-returns
 returns c = rw (eq-eqb _ _ (c .if1 .taken))

@@ -2,8 +2,6 @@
 use borrow.Author.Needs.{needs}
 use Rattle.line.proofs.form.is_listed.Statement.{statement}
 use Rattle.line.proofs.form.is_listed.Tie as tie
-use Rattle.line.proofs.form.is_listed.Reads as reads
-use Rattle.line.proofs.form.is_listed.Lts as lts
 
 enum-told : tie.Need-enum-told
 enum-told c = search needs

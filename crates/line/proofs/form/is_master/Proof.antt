@@ -3,9 +3,6 @@ use borrow.Author.Needs.{needs}
 use borrow.Author.Tests.{le-leb, lt-leb}
 use Rattle.line.proofs.form.is_master.Statement.{statement}
 use Rattle.line.proofs.form.is_master.Tie as tie
-use Rattle.line.proofs.form.is_master.Reads as reads
-use Rattle.line.proofs.form.is_master.Lts as lts
-use Rattle.line.proofs.form.within.Reads as within-reads
 
 returns : tie.Need-returns
 returns c = rw (le-leb _ _ (c .if1 .taken))

@@ -2,8 +2,6 @@
 use borrow.Author.Tests.{eq-eqb, ne-eqb}
 use Rattle.line.proofs.form.none_or_six.Statement.{statement}
 use Rattle.line.proofs.form.none_or_six.Tie as tie
-use Rattle.line.proofs.form.none_or_six.Reads as reads
-use Rattle.line.proofs.form.none_or_six.Lts as lts
 
 returns : tie.Need-returns
 returns c = rw (eq-eqb _ _ (c .if1 .taken))

@@ -2,8 +2,6 @@
 use borrow.Author.Tests.{le-leb, lt-leb}
 use Rattle.line.proofs.form.within.Statement.{statement}
 use Rattle.line.proofs.form.within.Tie as tie
-use Rattle.line.proofs.form.within.Reads as reads
-use Rattle.line.proofs.form.within.Lts as lts
 
 returns : tie.Need-returns
 returns c = rw (lt-leb _ _ (c .if1 .taken))

@@ -5,8 +5,6 @@ use native.Mathlib.Omega.{arith}
 use Rattle.laws.proofs.Pick.{on-le, on-gt}
 use Rattle.receiver.proofs.Receiver.push.Statement.{statement}
 use Rattle.receiver.proofs.Receiver.push.Tie as tie
-use Rattle.receiver.proofs.Receiver.push.Reads as reads
-use Rattle.receiver.proofs.Receiver.push.Lts as lts
 
 returns : tie.Need-returns
 returns c = on-le 10 (c .before .args .self .count) _ _ _ (omega arith) refl

@@ -5,11 +5,6 @@ use Rattle.receiver.specs.declared.Heard.the-variants.{Character}
 use Rattle.receiver.proofs.Laws.{both-told}
 use Rattle.receiver.proofs.Receiver.take.Statement.{statement}
 use Rattle.receiver.proofs.Receiver.take.Tie as tie
-use Rattle.receiver.proofs.Receiver.take.Reads as reads
-use Rattle.receiver.proofs.Receiver.take.Lts as lts
-use Rattle.receiver.proofs.Receiver.heard.Reads as heard-reads
-use Rattle.receiver.proofs.Receiver.new.Reads as new-reads
-use Rattle.receiver.proofs.Receiver.push.Reads as push-reads
 
 heard-requires : tie.Need-heard-requires
 heard-requires c κs = search needs
