@@ -6,3 +6,4 @@ pub mod PulseLaws
 pub mod StageLaws
 pub mod ByteLaws
 pub mod EntryLaws
+pub mod ReachLaws

@@ -1,0 +1,51 @@
+-- Every controller that calls make is reachable, and stays held of the machine after those calls: for callers, in loops too.
+-- Assumes nothing.
+use Prim.Native.Nat.{ℕ}
+use mathlib.Core.List.{List, [], _∷_}
+use mathlib.Core.Path.{_≡_, sym, ap, _∙_}
+use Rattle.machine.specs.Calls.{Call, byte, tick, state}
+use Rattle.machine.specs.Steps.{byteStep, tickStep}
+use Rattle.controller.specs.declared.Controller.{Controller}
+use Rattle.controller.specs.declared.PowerOn.{PowerOn}
+use Rattle.controller.specs.declared.ByteAnswer.{ByteAnswer}
+use Rattle.controller.specs.declared.TickAnswer.{TickAnswer}
+use Rattle.controller.specs.Held.{held, heldPower, heldByte, heldTick}
+use Rattle.controller.specs.Reach.{Reachable, Made}
+
+-- ---- The machine after one call more
+
+pub after-power : (s : ℕ) (r : PowerOn) → r ≡ heldPower s → held (state s []) ≡ r .controller
+unfolding state
+after-power s r e = sym (ap (λ (x : PowerOn). x .controller) e)
+
+module _ (c : Controller) (s : ℕ) (h : List Call) (e : held (state s h) ≡ c) where
+  pub after-tick : (w : ℕ) (r : TickAnswer) → Made c (λ m. r ≡ heldTick (tickStep m w))
+      → held (state s (tick w ∷ h)) ≡ r .controller
+  unfolding state
+  after-tick w r p = sym (ap (λ (x : TickAnswer). x .controller) (p s h e))
+
+  pub after-byte : (b : ℕ) (d : List ℕ) (r : ByteAnswer) → Made c (λ m. r ≡ heldByte (byteStep m b d))
+      → held (state s (byte b d ∷ h)) ≡ r .controller
+  unfolding state
+  after-byte b d r p = sym (ap (λ (x : ByteAnswer). x .controller) (p s h e))
+
+-- ---- Reachable controllers
+
+pub reach-power : (s : ℕ) (r : PowerOn) → r ≡ heldPower s → Reachable (r .controller)
+reach-power s r e = record { switch = s; history = []; made = after-power s r e }
+
+pub reach-tick : (c : Controller) → Reachable c → (w : ℕ) (r : TickAnswer) → Made c (λ m. r ≡ heldTick (tickStep m w))
+    → Reachable (r .controller)
+reach-tick c q w r p = record {
+  switch = q .switch;
+  history = tick w ∷ q .history;
+  made = after-tick c (q .switch) (q .history) (q .made) w r p;
+}
+
+pub reach-byte : (c : Controller) → Reachable c → (b : ℕ) (d : List ℕ) (r : ByteAnswer)
+    → Made c (λ m. r ≡ heldByte (byteStep m b d)) → Reachable (r .controller)
+reach-byte c q b d r p = record {
+  switch = q .switch;
+  history = byte b d ∷ q .history;
+  made = after-byte c (q .switch) (q .history) (q .made) b d r p;
+}
