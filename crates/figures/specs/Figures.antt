@@ -1,0 +1,87 @@
+-- Bench figures (paper 01, "Host end and program", "Turned away" 21), in terms of the library on IEEE 754. A Float is
+-- nan, inf or fin s m e: m * 2^e, minus where s is true. `round binary64 false a c` is the f64 nearest to a / c, and
+-- `HasValue x false a c` says that x is a / c exactly.
+use Prim.Native.Nat.{ℕ, _*_, _/_, _%_, _≤_, _<_}
+use mathlib.Core.Bool.{Bool, true, false, _&&_}
+use mathlib.Core.Path.{_≡_}
+use lib.Dec.{leb, eqb}
+use lib.Ieee.{Float, nan, inf, fin, binary64, up, down, round}
+use lib.Ieee.Exact.{HasValue}
+use Rattle.line.specs.declared.Command.the-variants as Line
+use Rattle.figures.specs.declared.Units.{Units}
+use Rattle.figures.specs.declared.Units.the-variants.{Count, Refused}
+use Rattle.figures.specs.declared.Setting.{Setting}
+use Rattle.figures.specs.declared.Setting.the-variants.{Speed, Slope}
+use Rattle.figures.specs.declared.Asked.{Asked}
+use Rattle.figures.specs.declared.Asked.the-variants as Ask
+use Rattle.figures.specs.declared.Figures.{Figures}
+
+-- "n units are exactly n/4 or 5n/4": r is the f64 nearest to a / c, and nothing was lost in the rounding.
+pub record Exactly (r : Float) (a c : ℕ) : Type 0 where
+  pub is : r ≡ round binary64 false a c
+  pub value : HasValue r false a c
+
+-- A speed of n units in hertz, a slope of n units in hertz per ms.
+abbrev pub speedHz : ℕ → Float
+speedHz n = round binary64 false n 4
+
+abbrev pub slopeHz : ℕ → Float
+slopeHz n = round binary64 false (5 * n) 4
+
+-- ---- the reverse reading
+
+-- n where the test holds, else refusal 21.
+abbrev pub pickUnits : Bool → ℕ → Units
+pickUnits true n = Count n
+pickUnits false n = Refused 21
+
+-- "Only such values of n in range are read back": the n from 1 to most for which x is exactly a * n / c, else 21.
+unfoldable pub unitsOf : ℕ → ℕ → ℕ → Float → Units
+unitsOf a c most nan = Refused 21
+unitsOf a c most (inf s) = Refused 21
+unitsOf a c most (fin true m e) = Refused 21
+unitsOf a c most (fin false m e) =
+    let q = m * up e * c / (a * down e) in
+    pickUnits (eqb (m * up e * c % (a * down e)) 0 && leb 1 q && leb q most) q
+
+-- P 8 takes 1 to 1,000,000 units of 1/4 Hz, P 9 takes 1 to 4,095 of 5/4 Hz per ms.
+abbrev pub speedUnits : Float → Units
+speedUnits x = unitsOf 1 4 1000000 x
+
+abbrev pub slopeUnits : Float → Units
+slopeUnits x = unitsOf 5 4 4095 x
+
+-- The same with no arithmetic: r counts n where x is the very f64 of an n in range, only there, and is 21 elsewhere.
+pub record ReadBack (figure : ℕ → Float) (most : ℕ) (x : Float) (r : Units) : Type 0 where
+  pub reads : (n : ℕ) → 1 ≤ n → n ≤ most → x ≡ figure n → r ≡ Count n
+  pub only : (n : ℕ) → r ≡ Count n → (1 ≤ n) × (n ≤ most) × (x ≡ figure n)
+  pub refuses : ((n : ℕ) → 1 ≤ n → n ≤ most → x ≡ figure n → ⊥) → r ≡ Refused 21
+
+-- What the reader of both scales may be told of its unit: it is a / 4, for an a above 0 of 16 bits.
+pub record UnitIs (u : Float) (a : ℕ) : Type 0 where
+  pub some : 0 < a
+  pub small : a < 65536
+  pub value : HasValue u false a 4
+
+-- ---- a setting as its P command
+
+-- P 8 with the units, P 9 with the units; a refusal goes on.
+abbrev pub asSpeed : Units → Asked
+asSpeed (Count n) = Ask.Command (Line.Speed n)
+asSpeed (Refused k) = Ask.Refused k
+
+abbrev pub asSlope : Units → Asked
+asSlope (Count n) = Ask.Command (Line.Slope n)
+asSlope (Refused k) = Ask.Refused k
+
+-- "A setting is a speed in hertz or a slope in hertz per ms": the matching P command, or 21.
+abbrev pub commandOf : Setting → Asked
+commandOf (Speed x) = asSpeed (speedUnits x)
+commandOf (Slope x) = asSlope (slopeUnits x)
+
+-- ---- the pair
+
+-- "A pair of figures shows speed and slope together", of settings in units.
+pub record Shown (r : Figures) (speed slope : ℕ) : Type 0 where
+  pub speed-is : Exactly (r .speed) speed 4
+  pub slope-is : Exactly (r .slope) (5 * slope) 4
