@@ -1,0 +1,5 @@
+pub mod Contents
+pub mod Writes
+pub mod Accepts
+pub mod Ranges
+pub mod RoundTrip

@@ -1,0 +1,24 @@
+-- The master picker (paper 01, "Host end and program"): the longest; of equals the lowest axis; 0 if all are 0.
+use Prim.Native.Nat.{ℕ}
+use mathlib.Core.Bool.{Bool, cond, not}
+use mathlib.Core.List.{List}
+use lib.Dec.{ltb}
+use lib.ListN.{getD}
+use Rattle.laws.specs.Axes.{some}
+
+-- No axis is longer than this length.
+abbrev pub noneLonger : List ℕ → ℕ → Bool
+noneLonger distances length = not (some (λ k. ltb length (getD distances k 0)))
+
+-- Axis k is the longest, or one of the longest.
+abbrev pub isLongest : List ℕ → ℕ → Bool
+isLongest distances k = noneLonger distances (getD distances k 0)
+
+-- The lowest axis that is.
+unfoldable pub masterOf : List ℕ → ℕ
+masterOf distances =
+    cond (isLongest distances 0) 0
+    (cond (isLongest distances 1) 1
+    (cond (isLongest distances 2) 2
+    (cond (isLongest distances 3) 3
+    4)))
