@@ -1,0 +1,73 @@
+-- What the replies of a controller are made from (paper 01, "Lines", Replies), block by block, as the reader is to give
+-- it back. The round trip of replies is stated in these terms: proofs/ReadBack.antt, `replies-read`.
+use Prim.Native.Nat.{ℕ}
+use mathlib.Core.Bool.{cond}
+use mathlib.Core.List.{List, [], _∷_, _++_, map}
+use mathlib.Core.Path.{_≡_}
+use Rattle.digits.specs.declared.Ident.{Ident}
+use Rattle.line.specs.declared.Command.{Command}
+use Rattle.line.specs.declared.Command.the-variants as C
+use Rattle.reply.specs.Reply.{refusalIdent}
+use Rattle.machine.specs.State.{Machine}
+use Rattle.machine.specs.Stops as Stops
+use Rattle.machine.specs.Replies.{travelOf, positionOf}
+use Rattle.machine.specs.Steps.{Outcome, untaken, gathered, refused, accepted}
+use Rattle.reader.specs.Reader.{Figures, verdict, travelled, status, echo, placed, inputs, readOf}
+
+-- An axis's travel with the latest move's direction, its position; the status; the last tick's inputs.
+abbrev pub travelIn : Machine → Ident → ℕ → Figures
+travelIn m ident k = travelled (m .switch) k (m .move .plan .minus k) (travelOf m k) ident
+
+abbrev pub positionIn : Machine → Ident → ℕ → Figures
+positionIn m ident k = placed (m .switch) k (positionOf m k) ident
+
+abbrev pub statusIn : Machine → Ident → Figures
+statusIn m ident = status (m .switch) (Stops.status m) ident
+
+abbrev pub inputsIn : Machine → Ident → Figures
+inputsIn m ident = inputs (m .switch) (m .inputs) ident
+
+-- What the reply to an accepted command with these six digits says. P: 0. Q: a reading, or the digits. q: a position,
+-- or everything. W: the inputs.
+abbrev pub saidTo : Machine → Command → ℕ → Ident → List Figures
+saidTo m (C.Distance k minus d) digits ident = verdict (m .switch) 0 ident ∷ []
+saidTo m (C.Speed v) digits ident = verdict (m .switch) 0 ident ∷ []
+saidTo m (C.Slope v) digits ident = verdict (m .switch) 0 ident ∷ []
+saidTo m (C.Dwell v) digits ident = verdict (m .switch) 0 ident ∷ []
+saidTo m (C.Watch v) digits ident = verdict (m .switch) 0 ident ∷ []
+saidTo m (C.Polarity v) digits ident = verdict (m .switch) 0 ident ∷ []
+saidTo m (C.Travel k) digits ident = travelIn m ident k ∷ []
+saidTo m C.Status digits ident = statusIn m ident ∷ []
+saidTo m (C.Start k waits) digits ident = echo (m .switch) digits ident ∷ []
+saidTo m C.Stop digits ident = echo (m .switch) digits ident ∷ []
+saidTo m C.ClearWrongMaster digits ident = echo (m .switch) digits ident ∷ []
+saidTo m C.ResetPositions digits ident = echo (m .switch) digits ident ∷ []
+saidTo m (C.LowOn v) digits ident = echo (m .switch) digits ident ∷ []
+saidTo m (C.HighOn v) digits ident = echo (m .switch) digits ident ∷ []
+saidTo m (C.Position k) digits ident = positionIn m ident k ∷ []
+saidTo m C.Everything digits ident =
+    travelIn m ident 0 ∷ travelIn m ident 1 ∷ travelIn m ident 2 ∷ travelIn m ident 3 ∷ travelIn m ident 4
+    ∷ statusIn m ident
+    ∷ positionIn m ident 0 ∷ positionIn m ident 1 ∷ positionIn m ident 2 ∷ positionIn m ident 3 ∷ positionIn m ident 4
+    ∷ inputsIn m ident ∷ []
+saidTo m C.Inputs digits ident = inputsIn m ident ∷ []
+saidTo m (C.Outputs v) digits ident = inputsIn m ident ∷ []
+
+-- What the reply to a byte says: nothing where there is no reply; a line turned away, its number, with the
+-- identification from 8 on.
+abbrev pub saidOf : Machine → Outcome → List Figures
+saidOf m untaken = []
+saidOf m gathered = []
+saidOf m (refused n silent ident) = cond silent [] (verdict (m .switch) n (refusalIdent n ident) ∷ [])
+saidOf m (accepted c digits silent ident) = cond silent [] (saidTo m c digits ident)
+
+-- Rows of bytes, one behind the other.
+abbrev pub joined : List (List ℕ) → List ℕ
+joined [] = []
+joined (b ∷ bs) = b ++ joined bs
+
+-- The bytes are blocks one behind the other, and the reader gives these figures of them.
+pub record ReadsAs (bytes : List ℕ) (figures : List Figures) : Type 0 where
+  pub blocks : List (List ℕ)
+  pub whole : joined blocks ≡ bytes
+  pub read : map readOf blocks ≡ figures
