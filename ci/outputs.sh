@@ -1,0 +1,16 @@
+#!/usr/bin/env bash
+# Stored outputs against the reference program: ci/outputs.sh compares, ci/outputs.sh make writes them anew.
+# Each NAME.in has its NAME.out beside it.
+set -eu
+cd "$(dirname "$0")/.."
+cargo build --release --offline --quiet --manifest-path reference/Cargo.toml
+for input in docs/protocol.in reference/data/*.in; do
+    output="${input%.in}.out"
+    if [ "${1:-}" = make ]; then
+        reference/target/release/bench_reference < "$input" > "$output"
+    elif ! reference/target/release/bench_reference < "$input" | cmp -s - "$output"; then
+        echo "outputs: $output is not what the reference prints"
+        exit 1
+    fi
+done
+echo "outputs: stored outputs are those of the reference"

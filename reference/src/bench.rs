@@ -1,0 +1,114 @@
+//! Host end and program: the bench program.
+
+use crate::line::{digit_value, LINE_END};
+use crate::machine::{front, Machine, LEAST_REPLY_BUFFER};
+use std::io::{self, BufRead, Write};
+
+/// Host end and program: the most ticks of one T line.
+pub const MOST_TICKS: u32 = 1_000_000;
+
+/// Host end and program: n is decimal without leading zeros, 1 to 1,000,000.
+fn tick_count(characters: &[u8]) -> Option<u32> {
+    if characters.is_empty() || characters.len() > 7 || characters[0] == b'0' {
+        return None;
+    }
+    let mut n = 0;
+    for &character in characters {
+        if !character.is_ascii_digit() {
+            return None;
+        }
+        n = n * 10 + (character - b'0') as u32;
+    }
+    if n > MOST_TICKS {
+        return None;
+    }
+    Some(n)
+}
+
+/// Host end and program: the input word is six digits of either case.
+fn input_word(characters: &[u8]) -> Option<u32> {
+    if characters.len() != 6 {
+        return None;
+    }
+    let mut word = 0;
+    for &character in characters {
+        word = word * 16 + digit_value(character)? as u32;
+    }
+    Some(word)
+}
+
+/// Host end and program: `T n hhhhhh` with two single spaces.
+pub fn read_tick_line(line: &[u8]) -> Option<(u32, u32)> {
+    let parts: Vec<&[u8]> = line.split(|&character| character == b' ').collect();
+    if parts.len() != 3 || parts[0] != b"T" {
+        return None;
+    }
+    Some((tick_count(parts[1])?, input_word(parts[2])?))
+}
+
+/// Host end and program: n ticks with one input word; the sums of the signed pulses.
+fn run_ticks(machine: &mut Machine, n: u32, word: u32) -> [i64; 5] {
+    let mut sums = [0; 5];
+    for _ in 0..n {
+        let answer = machine.tick(word);
+        for (sum, pulse) in sums.iter_mut().zip(answer.pulses) {
+            *sum += pulse as i64;
+        }
+    }
+    sums
+}
+
+/// Host end and program: a line beginning with T prints the sums, or `?` where it has not the form.
+fn tick_line<W: Write>(machine: &mut Machine, line: &[u8], output: &mut W) -> io::Result<()> {
+    match read_tick_line(line) {
+        Some((n, word)) => {
+            let s = run_ticks(machine, n, word);
+            writeln!(output, "{} {} {} {} {}", s[0], s[1], s[2], s[3], s[4])
+        }
+        None => writeln!(output, "?"),
+    }
+}
+
+/// Host end and program: replies print with a line feed for 0D.
+fn print_reply<W: Write>(reply: &[u8], output: &mut W) -> io::Result<()> {
+    for &character in reply {
+        let printed = if character == LINE_END { b'\n' } else { character };
+        output.write_all(&[printed])?;
+    }
+    Ok(())
+}
+
+/// Host end and program: one byte goes in and its reply is printed.
+fn send_byte<W: Write>(machine: &mut Machine, byte: u8, buf: &mut [u8], output: &mut W) -> io::Result<()> {
+    let answer = machine.byte(byte, buf);
+    print_reply(front(buf, answer.len), output)
+}
+
+/// Host end and program: any other line goes in with 0D for its line feed.
+fn command_line<W: Write>(machine: &mut Machine, line: &[u8], output: &mut W) -> io::Result<()> {
+    let mut buf = [0; LEAST_REPLY_BUFFER];
+    for &byte in line {
+        send_byte(machine, byte, &mut buf, output)?;
+    }
+    send_byte(machine, LINE_END, &mut buf, output)
+}
+
+/// Host end and program: switch 0, all lines of the input; the last line may lack its line feed.
+pub fn run<R: BufRead, W: Write>(mut input: R, output: &mut W) -> io::Result<()> {
+    let (mut machine, _) = Machine::power_on(0);
+    let mut line = Vec::new();
+    loop {
+        line.clear();
+        if input.read_until(b'\n', &mut line)? == 0 {
+            return output.flush();
+        }
+        if line.last() == Some(&b'\n') {
+            line.pop();
+        }
+        if line.first() == Some(&b'T') {
+            tick_line(&mut machine, &line, output)?;
+        } else {
+            command_line(&mut machine, &line, output)?;
+        }
+    }
+}

@@ -1,0 +1,22 @@
+//! Reference of the five-pump blending controller, written from paper 01 and, where that is silent, the manual.
+//!
+//! Each rule is a small function; its comment names the section of paper 01 that holds the rule.
+
+#![forbid(unsafe_code)]
+
+pub mod bench;
+pub mod command;
+pub mod figures;
+pub mod host;
+pub mod inputs;
+pub mod line;
+pub mod machine;
+pub mod output;
+pub mod ramp;
+pub mod reply;
+pub mod share;
+
+pub use command::{Command, CommandValue};
+pub use figures::{figures_of, Figures, Setting};
+pub use host::{pick_master, read_block, write_line, Block, Reading};
+pub use machine::{front, ByteAnswer, Machine, TickAnswer};
