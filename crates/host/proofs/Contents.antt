@@ -4,8 +4,8 @@ use mathlib.Core.Bool.{Bool, true, false, cond}
 use mathlib.Core.Path.{_≡_, refl, ap}
 use native.Mathlib.Omega.{arith}
 use Rattle.line.specs.declared.Command.{Command}
-use Rattle.host.specs.declared.Content.{Content}
-use Rattle.host.specs.declared.Content.the-variants.{Nothing, Query, Digits}
+use Rattle.host.specs.declared.content.Content.{Content}
+use Rattle.host.specs.declared.content.Content.the-variants.{Nothing, Query, Digits}
 use Rattle.host.specs.Writer.{letterOf, digitsOf, inRange, isQuery, contentOf}
 
 pub same-digits : (letter : ℕ) {a b : ℕ} → a ≡ b → Digits letter a ≡ Digits letter b

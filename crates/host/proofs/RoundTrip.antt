@@ -1,20 +1,22 @@
 -- The round trip of lines: the bytes that the writer makes of a request that has a line, received by the controller one
 -- after the other with nothing received before, are characters up to the 0D, and at the 0D that very line: the command,
 -- whether it is silent, and the identification. Assumes nothing.
-use Prim.Native.Nat.{ℕ, _+_, _-_, _/_, _%_, _<_}
+use Prim.Native.Nat.{ℕ, _+_, _-_, _/_, _%_, _≤_, _<_}
 use native.Mathlib.Omega.{arith}
 use mathlib.Core.Bool.{Bool, true, false, cond, false≢true}
 use mathlib.Core.List.{List, [], _∷_, _++_, append-assoc, append-nil}
 use mathlib.Core.Path.{_≡_, refl, sym, ap, _∙_}
-use borrow.Author.Tests.{ne-eqb}
+use borrow.Author.Tests.{le-ltb, ne-eqb}
 use lib.Dec.{eqb}
 use lib.ListN.{length}
-use Rattle.laws.proofs.Pick.{by-lt}
+use Rattle.laws.proofs.Pick.{by-lt, by-bool}
 use Rattle.digits.specs.Digits.{digitOf, capitalOf, sixOf, numberOf}
 use Rattle.digits.specs.declared.Ident.{Ident}
 use Rattle.digits.specs.declared.Ident.the-variants.{Absent, Given}
 use Rattle.digits.proofs.Laws.{six-number}
-use Rattle.block.specs.Block.{blockOf}
+use Rattle.block.specs.Block.{blockOf, frontOf}
+use Rattle.block.proofs.Blocks.{block-most}
+use Rattle.block.proofs.Buffers.{front-over}
 use Rattle.line.specs.declared.Command.{Command}
 use Rattle.line.specs.declared.Command.the-variants as C
 use Rattle.line.specs.declared.Judged.the-variants.{Accepted}
@@ -36,6 +38,7 @@ use Rattle.host.specs.Writer.{
   queryOf,
   fullOf,
   lineOf,
+  bufferOf,
 }
 use Rattle.host.specs.RoundTrip.{heardAll, endedAfter}
 use Rattle.host.proofs.Accepts.{accepts, digits-fit}
@@ -234,3 +237,18 @@ unfolding lineOf
 round-trip r e =
     let t = both (inRange (r .command)) _ e in
     whole-read (r .silent) (r .command) (r .ident) (isQuery (r .command)) refl (range-fits (r .command) (t .0)) (t .1)
+
+-- ---- the bytes in the buffer
+
+line-most : (r : Request) → length (lineOf r) ≤ 10
+unfolding lineOf
+line-most r =
+    by-bool (λ (s : List ℕ). length s ≤ 10) (isQuery (r .command)) (queryOf (r .silent)) _ (λ _. omega arith)
+    (λ _. block-most _)
+
+-- The front part of the buffer that the writer fills is the line.
+pub front-line : (r : Request) (d : List ℕ) → 10 ≤ length d → hasLine r ≡ true
+    → frontOf (bufferOf r d) (length (lineOf r)) ≡ lineOf r
+unfolding bufferOf
+front-line r d h e =
+    rw (le-ltb (length d) 10 h, e) (front-over (lineOf r) d (omega (arith, line-most r)))

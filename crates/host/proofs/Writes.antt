@@ -15,7 +15,7 @@ use Rattle.block.proofs.Blocks.{block-most}
 use Rattle.block.proofs.Buffers.{stores, laid-over, laid-over-length}
 use Rattle.host.specs.declared.Request.{Request}
 use Rattle.host.specs.declared.Written.the-variants.{Length, Refused}
-use Rattle.host.specs.declared.Content.the-variants.{Nothing, Query, Digits}
+use Rattle.host.specs.declared.content.Content.the-variants.{Nothing, Query, Digits}
 use Rattle.host.specs.Writer.{
   letterOf,
   digitsOf,

@@ -1,4 +1,5 @@
--- What the controller's receiver makes of bytes that come one after the other (crate receiver, `receive`).
+-- What the controller's receiver makes of bytes that come one after the other (crate receiver, `receive`). The round
+-- trip of lines is stated in these terms: proofs/RoundTrip.antt, `round-trip`.
 use Prim.Native.Nat.{ℕ, zero, suc}
 use mathlib.Core.List.{List, [], _∷_}
 use Rattle.receiver.specs.declared.Heard.{Heard}

@@ -16,8 +16,8 @@ use Rattle.line.specs.declared.Command.the-variants as C
 use Rattle.host.specs.declared.Request.{Request}
 use Rattle.host.specs.declared.Written.{Written}
 use Rattle.host.specs.declared.Written.the-variants.{Length, Refused}
-use Rattle.host.specs.declared.Content.{Content}
-use Rattle.host.specs.declared.Content.the-variants.{Nothing, Query, Digits}
+use Rattle.host.specs.declared.content.Content.{Content}
+use Rattle.host.specs.declared.content.Content.the-variants.{Nothing, Query, Digits}
 
 -- ---- A command's letter and digits ("Lines"; chapter 7)
 

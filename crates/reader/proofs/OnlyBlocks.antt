@@ -1,5 +1,5 @@
--- Whatever the reader takes is a block: the bytes are those of a reply block with just the figures that it gives, and so
--- no two rows of bytes read alike. All else is 20. Assumes nothing.
+-- Whatever the reader takes is a block: the bytes are those of a reply block with just the figures that it gives. All
+-- else is 20. Assumes nothing.
 use Prim.Native.Nat.{ℕ, _+_, _-_, _%_, _<_}
 use native.Mathlib.Omega.{arith}
 use mathlib.Core.Bool.{true, false, not}
@@ -80,8 +80,8 @@ module _ (switch n : ℕ) (ident : Ident) (s : List ℕ) where
   place-spelt : blockFor switch 115 n ident ≡ s → Spelt s (placeIn switch n ident)
   place-spelt e =
       by-lt (Spelt s) (code n) 5 _ _
-      (λ _. ap (λ (x : ℕ). blockFor switch 115 x ident) (ap (coded (code n)) (twenty-signed (five n) (omega arith)) ∙ whole)
-      ∙ e)
+      (λ _. ap (λ (x : ℕ). blockFor switch 115 x ident) (ap (coded (code n)) (twenty-signed (five n) (omega arith))
+      ∙ whole) ∙ e)
       (λ _. refl)
     where
       whole : coded (code n) (five n) ≡ n
