@@ -1,11 +1,12 @@
 #!/usr/bin/env bash
 # Stored outputs against the reference program: ci/outputs.sh compares, ci/outputs.sh make writes them anew.
-# Each NAME.in has its NAME.out beside it.
+# Each NAME.in has its NAME.out beside it; the bench program's own test is crates/bench/stdin and stdout.
 set -eu
 cd "$(dirname "$0")/.."
 cargo build --release --offline --quiet --manifest-path reference/Cargo.toml
-for input in docs/protocol.in reference/data/*.in; do
+for input in docs/*.in sessions/*.in reference/data/*.in crates/bench/stdin; do
     output="${input%.in}.out"
+    if [ "$input" = crates/bench/stdin ]; then output=crates/bench/stdout; fi
     if [ "${1:-}" = make ]; then
         reference/target/release/bench_reference < "$input" > "$output"
     elif ! reference/target/release/bench_reference < "$input" | cmp -s - "$output"; then
@@ -13,4 +14,4 @@ for input in docs/protocol.in reference/data/*.in; do
         exit 1
     fi
 done
-echo "outputs: stored outputs are those of the reference"
+echo "outputs: all stored outputs are those of the reference"

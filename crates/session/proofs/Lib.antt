@@ -1,0 +1,6 @@
+mod AskedLaws
+mod SumLaws
+mod TextLaws
+mod KeptLaws
+mod PrintLaws
+mod SessionLaws

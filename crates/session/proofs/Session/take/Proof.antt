@@ -1,0 +1,57 @@
+-- A byte of the input, and that the next session is again one that calls made. Assumes nothing.
+use borrow.Author.Needs.{needs}
+use Rattle.machine.specs.Calls.{state}
+use Rattle.laws.proofs.Pick.{on-eq, on-ne}
+use mathlib.Core.Path.{refl}
+use Rattle.session.proofs.SessionLaws.{taken-told, rests-told, short-told, long-told}
+use Rattle.session.proofs.Session.take.Statement.{statement}
+use Rattle.session.proofs.Session.take.Tie as tie
+
+returns : tie.Need-returns
+returns c =
+    let l = c .before .before in
+    taken-told (l .args .self) (l .args .b) _ (l .args .buf .now) (l .args .buf .now) (l .pre)
+    (λ w h p e. short-told (state w h) p (l .args .self) e _ (l .args .buf .now) (l .args .buf .now) _ (c .if1 .taken)
+    (rests-told (state w h) p (l .args .self) e (l .args .buf .now)))
+
+end-line-requires : tie.Need-end-line-requires
+end-line-requires c κs = search needs
+
+same-length : tie.Need-same-length
+same-length c = search needs
+
+returns-2 : tie.Need-returns-2
+returns-2 c =
+    let l = c .before .before .before .before .before .before .before in
+    let a = c .before .before .end-line in
+    taken-told (l .args .self) (l .args .b) (a .result) (a .last .1 .0) (l .args .buf .now) (l .pre)
+    (λ w h p e. long-told (state w h) p (l .args .self) e (a .result) (a .last .1 .0) (l .args .buf .now) _ _
+    (c .before .before .before .before .before .if1 .left)
+    (on-eq (l .args .b) 10 _ _ _ (c .before .before .before .before .if2 .taken) refl) (a .ensures w h p e))
+
+pass-requires : tie.Need-pass-requires
+pass-requires c κs = search needs
+
+same-length-2 : tie.Need-same-length-2
+same-length-2 c = search needs
+
+returns-3 : tie.Need-returns-3
+returns-3 c =
+    let l = c .before .before .before .before .before .before .before in
+    let a = c .before .before .pass in
+    taken-told (l .args .self) (l .args .b) (a .result) (a .last .1 .0) (l .args .buf .now) (l .pre)
+    (λ w h p e. long-told (state w h) p (l .args .self) e (a .result) (a .last .1 .0) (l .args .buf .now) _ _
+    (c .before .before .before .before .before .if1 .left)
+    (on-ne (l .args .b) 10 _ _ _ (c .before .before .before .before .if2 .left) refl) (a .ensures w h p e))
+
+pub take-spec : {M : Type 1} → statement M
+take-spec =
+    tie.close
+    (tie.spec
+    returns
+    end-line-requires
+    same-length
+    returns-2
+    pass-requires
+    same-length-2
+    returns-3)

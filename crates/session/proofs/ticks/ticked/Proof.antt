@@ -1,0 +1,33 @@
+-- One tick more, on every machine so held. Assumes nothing.
+use borrow.Author.Needs.{needs}
+use mathlib.Core.List.{List}
+use mathlib.Core.Path.{sym, ap, subst, _∙_}
+use lib.IntN.{ℤ}
+use Rattle.session.specs.Ticks.{Rooms, addedOf}
+use Rattle.session.proofs.SumLaws.{rooms}
+use Rattle.session.proofs.ticks.ticked.Statement.{statement}
+use Rattle.session.proofs.ticks.ticked.Tie as tie
+
+tick-requires : tie.Need-tick-requires
+tick-requires c κs = search needs
+
+added-requires : tie.Need-added-requires
+added-requires c κs =
+    let l = c .before .before .before .before in
+    let r = l .pre .0 in
+    subst (λ (ps : List ℤ). Rooms (l .args .ran .sums) ps)
+    (sym (ap (λ x. x .pulses) (c .before .tick .ensures (r .switch) (r .history) (r .made))))
+    (rooms (r .switch) (l .args .word) (r .history) (l .args .ran .sums) (l .pre .1))
+
+returns : tie.Need-returns
+returns c =
+    let l = c .before .before .before .before .before .before in
+    λ s h e. λ i. record {
+      controller = c .before .before .before .tick .ensures s h e i .controller;
+      sums =
+          (c .before .added .ensures
+          ∙ ap (λ x. addedOf (l .args .ran .sums) (x .pulses)) (c .before .before .before .tick .ensures s h e)) i;
+    }
+
+pub ticked-spec : {M : Type 1} → statement M
+ticked-spec = tie.close (tie.spec tick-requires added-requires returns)

@@ -1,0 +1,5 @@
+pub mod Asked
+pub mod Ticks
+pub mod Text
+pub mod Kept
+pub mod Session

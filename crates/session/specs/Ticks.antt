@@ -1,0 +1,50 @@
+-- So many ticks with one input word: the machine after them, and the sums of the signed pulses.
+use Prim.Native.Nat.{ℕ, zero, suc, _≤_, _<_}
+use mathlib.Core.List.{List}
+use lib.IntN.{ℤ, pos, _+ℤ_, natAbs}
+use lib.ListN.{getD}
+use mir.Syntax.{w8, w32}
+use mir.Val.{SFits}
+use Rattle.laws.specs.Axes.{each}
+use Rattle.machine.specs.State.{Machine}
+use Rattle.machine.specs.Steps as steps
+use Rattle.machine.specs.Steps.{tickStep}
+use Rattle.controller.specs.Held.{held}
+use Rattle.session.specs.declared.ticks.Ran.{Ran}
+
+-- The machine after n ticks with the input word w.
+unfoldable pub afterTicks : ℕ → ℕ → Machine → Machine
+afterTicks zero w m = m
+afterTicks (suc n) w m = tickStep (afterTicks n w m) w .machine
+
+-- The sum of the signed pulses of axis k in these ticks.
+unfoldable pub sumOf : ℕ → ℕ → Machine → ℕ → ℤ
+sumOf zero w m k = pos 0
+sumOf (suc n) w m k = sumOf n w m k +ℤ tickStep (afterTicks n w m) w .pulse k
+
+abbrev pub ranOf : ℕ → ℕ → Machine → Ran
+ranOf n w m = record { controller = held (afterTicks n w m); sums = each (sumOf n w m) }
+
+-- ---- One tick more, on what is held
+
+abbrev pub sumAt : List ℤ → List ℤ → ℕ → ℤ
+sumAt sums pulses k = getD sums k (pos 0) +ℤ getD pulses k (pos 0)
+
+abbrev pub addedOf : List ℤ → List ℤ → List ℤ
+addedOf sums pulses = each (sumAt sums pulses)
+
+abbrev pub tickedOf : List ℤ → steps.TickAnswer → Ran
+tickedOf sums a = record { controller = held (a .machine); sums = addedOf sums (each (a .pulse)) }
+
+-- Neither a sum, nor a pulse, nor the two added leave their range.
+pub record Room (z p : ℤ) : Type 0 where
+  pub sum : SFits w32 z
+  pub pulse : SFits w8 p
+  pub both : SFits w32 (z +ℤ p)
+
+abbrev pub Rooms : List ℤ → List ℤ → Type 0
+Rooms sums pulses = (k : ℕ) → k < 5 → Room (getD sums k (pos 0)) (getD pulses k (pos 0))
+
+-- Sums over any number of ticks: no larger than the way from the least position to the greatest.
+abbrev pub Small : List ℤ → Type 0
+Small sums = (k : ℕ) → k < 5 → natAbs (getD sums k (pos 0)) ≤ 1048576

@@ -1,0 +1,73 @@
+// So many ticks with one input word, and the sums of their signed pulses. Assumes nothing.
+ghost use mathlib.Core.Path.{_≡_};
+ghost use lib.IntN.{_+ℤ_};
+ghost use Rattle.machine.specs.Steps.{tickStep};
+ghost use mir.Syntax.{w32};
+ghost use mir.Val.{SFits};
+ghost use Rattle.controller.specs.Reach.{Reachable, Made};
+ghost use Rattle.session.specs.Ticks.{ranOf, Rooms, Small, addedOf, tickedOf};
+use controller::Controller;
+
+// The controller after some ticks, and the sums of the signed pulses of axes 0 to 4 in them.
+pub struct Ran {
+    pub controller: Controller,
+    pub sums: [i32; 5],
+}
+
+// The sum with one pulse more.
+fn add(sum: i32, pulse: i8) -> i32
+    requires { ⌜ SFits w32 (sum +ℤ pulse) ⌝ }
+    ensures { λ r. ⌜ r ≡ sum +ℤ pulse ⌝ }
+{
+    sum + pulse as i32
+}
+
+// The five sums with the pulses of one tick more.
+fn added(sums: [i32; 5], pulses: [i8; 5]) -> [i32; 5]
+    requires { ⌜ Rooms sums pulses ⌝ }
+    ensures { λ r. ⌜ r ≡ addedOf sums pulses ⌝ }
+{
+    [
+        add(sums[0], pulses[0]),
+        add(sums[1], pulses[1]),
+        add(sums[2], pulses[2]),
+        add(sums[3], pulses[3]),
+        add(sums[4], pulses[4]),
+    ]
+}
+
+// One tick more.
+fn ticked(ran: Ran, word: u32) -> Ran
+    requires { ⌜ Reachable (ran .controller) ⌝ }
+    requires { ⌜ Small (ran .sums) ⌝ }
+    ensures { λ r. ⌜ Made (ran .controller) (λ m. r ≡ tickedOf (ran .sums) (tickStep m word)) ⌝ }
+{
+    let was = ran.controller;
+    let sums = ran.sums;
+    let a = was.tick(word);
+    let pulses = a.pulses;
+    let more = added(sums, pulses);
+    let controller = a.controller;
+    Ran {
+        controller,
+        sums: more,
+    }
+}
+
+// `count` ticks, whatever the controller does in them: no sum leaves the range, since positions do not.
+pub fn run_ticks(c: Controller, count: u32, word: u32) -> Ran
+    requires { ⌜ Reachable c ⌝ }
+    ensures { λ r. ⌜ Made c (λ m. r ≡ ranOf count word m) ⌝ }
+{
+    let mut ran = Ran {
+        controller: c,
+        sums: [0; 5],
+    };
+    let mut i = 0;
+    while i < count {
+        let next = ticked(ran, word);
+        ran = next;
+        i += 1;
+    }
+    ran
+}
