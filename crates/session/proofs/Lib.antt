@@ -4,3 +4,4 @@ mod TextLaws
 mod KeptLaws
 mod PrintLaws
 mod SessionLaws
+mod LineLaws

@@ -111,7 +111,7 @@ put-put at a b d h =
       take-append-seam,
       drop-append-seam,
       length-append a b,
-      drop-drop,
+      drop-drop (length b) (length a) (drop at d),
     )
     (append-assoc (take at d) a _ ∙ ap (λ (x : List ℕ). take at d ++ x) (sym (append-assoc a b _)))
 

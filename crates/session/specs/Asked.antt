@@ -43,7 +43,7 @@ ticksBy n (Value w small) = Ticks n w
 abbrev pub askedBy : ℕ → Number → Asked
 askedBy n word = cond (eqb n 0) Malformed (ticksBy n word)
 
--- A line that begins with T, by its characters: 10 to 16 of them; T (84), a space (32), n, a space, the input word.
+-- What a line asks, by its characters, 10 to 16 of them: T (84), a space (32), n, a space, the input word.
 unfoldable pub askedOf : List ℕ → Asked
 askedOf cs =
     cond (ltb (length cs) 10) Malformed

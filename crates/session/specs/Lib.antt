@@ -3,3 +3,4 @@ pub mod Ticks
 pub mod Text
 pub mod Kept
 pub mod Session
+pub mod Lines

@@ -1,4 +1,5 @@
-// The form `T n hhhhhh` of the bench program's lines (paper 01, "Host end and program"). Assumes nothing.
+// The form `T n hhhhhh` of the bench program's lines (paper 01, "Host end and program"). The public function is total.
+// Assumes nothing.
 ghost use Prim.Native.Nat.{_≤_};
 ghost use mathlib.Core.Path.{_≡_};
 ghost use lib.ListN.{length};
@@ -6,11 +7,23 @@ ghost use Rattle.digits.specs.Digits.{numberOf};
 ghost use Rattle.session.specs.Asked.{joinOf, countOf, askedBy, askedOf};
 use digits::Number;
 
+// The letter T, and a space.
+const LETTER: u8 = 84;
+
+const SPACE: u8 = 32;
+
+// The most ticks of a line.
+const MOST: u32 = 1000000;
+
+// What a line that begins with T asks.
 pub enum Asked {
+    // It has not the form.
     Malformed,
+    // So many ticks with this input word.
     Ticks { count: u32, word: u32 },
 }
 
+// The number with one decimal digit more, or 0.
 fn join(n: u32, c: u8) -> u32
     requires { ⌜ n ≤ 1000000 ⌝ }
     ensures { λ r. ⌜ (r ≡ joinOf n c) × (r ≤ 1000000) ⌝ }
@@ -22,12 +35,13 @@ fn join(n: u32, c: u8) -> u32
         return 0;
     }
     let v = n * 10 + (c - 48) as u32;
-    if 1000000 < v {
+    if MOST < v {
         return 0;
     }
     v
 }
 
+// The number that the characters spell, 1 to 1,000,000 without leading zeros, or 0.
 fn read_count(cs: &[u8]) -> u32
     ensures { λ r. ⌜ r ≡ countOf (now (cs .entry)) ⌝ }
 {
@@ -71,7 +85,7 @@ fn asked_by(count: u32, word: Number) -> Asked
     }
 }
 
-// A line that begins with T, by its characters.
+// What a line asks, by its characters. A line that does not begin with T has not the form either.
 pub fn parse_tick(line: &[u8]) -> Asked
     ensures { λ r. ⌜ r ≡ askedOf (now (line .entry)) ⌝ }
 {
@@ -83,16 +97,16 @@ pub fn parse_tick(line: &[u8]) -> Asked
         return Asked::Malformed;
     }
     let letter = line[0];
-    if letter != 84 {
+    if letter != LETTER {
         return Asked::Malformed;
     }
     let first = line[1];
-    if first != 32 {
+    if first != SPACE {
         return Asked::Malformed;
     }
     let end = n - 7;
     let second = line[end];
-    if second != 32 {
+    if second != SPACE {
         return Asked::Malformed;
     }
     let count = read_count(&line[2..end]);

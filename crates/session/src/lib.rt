@@ -10,6 +10,7 @@ ghost use Rattle.block.specs.Block.{over};
 ghost use Rattle.machine.specs.Steps.{byteStep};
 ghost use Rattle.controller.specs.Reach.{Reachable, Made};
 ghost use Rattle.session.specs.Kept.{Keeping};
+ghost use Rattle.session.specs.Lines.{Lines};
 ghost use Rattle.session.specs.Session.{shownByte, shown, buffer, fresh, asks, ended, character, taken, finished};
 ghost use Rattle.session.specs.Session.{Passed, stoodAt, atStart, keptOf, heldBench};
 ghost use Rattle.session.specs.Session.{Told, Answers, Running, Runs};
@@ -45,6 +46,7 @@ pub enum Place {
     Asking,
 }
 
+// The controller, the characters of a line that begins with T, and where the input stands.
 pub struct Session {
     controller: Controller,
     kept: Kept,
@@ -149,10 +151,12 @@ fn answer(c: Controller, buf: &mut [u8], asked: Asked) -> Taken
 }
 
 impl Session {
-    // A controller of switch 0, before any line.
+    // A controller of switch 0, before any line. The law of whole lines stands here as a promise, so that the gate
+    // keeps it: it speaks of the bench whose held values every entry answers.
     pub fn new() -> Session
         ensures { λ r. ⌜ r ≡ heldBench fresh ⌝ }
         ensures { λ r. ⌜ Running r ⌝ }
+        ensures { λ _. ⌜ Lines ⌝ }
     {
         let on = controller::power_on(0);
         let controller = on.controller;

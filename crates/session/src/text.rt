@@ -1,4 +1,4 @@
-// Sums as text (paper 01, "Host end and program"). Assumes nothing.
+// Sums as text (paper 01, "Host end and program"). The public function is total. Assumes nothing.
 ghost use Prim.Native.Nat.{_+_, _≤_};
 ghost use mathlib.Core.List.{[], _∷_, _++_};
 ghost use mathlib.Core.Path.{_≡_};
@@ -24,12 +24,14 @@ fn write_decimal(buf: &mut [u8], at: usize, n: u32) -> usize
     end + 1
 }
 
+// Whether a number is below 0.
 fn is_minus(z: i32) -> bool
     ensures { λ r. ⌜ r ≡ isMinus z ⌝ }
 {
     z < 0
 }
 
+// A number without its sign.
 fn size(z: i32) -> u32
     ensures { λ r. ⌜ r ≡ natAbs z ⌝ }
 {
@@ -53,6 +55,7 @@ fn write_number(buf: &mut [u8], at: usize, minus: bool, n: u32) -> usize
     write_decimal(buf, at, n)
 }
 
+// What stands after the sum of axis k.
 fn mark(k: usize) -> u8
     ensures { λ r. ⌜ r ≡ markOf k ⌝ }
 {

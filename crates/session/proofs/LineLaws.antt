@@ -1,0 +1,128 @@
+-- Whole lines, taken byte by byte: those that begin with T are kept to their end, others go in as they come. Assumes
+-- nothing.
+use Prim.Native.Nat.{ℕ}
+use native.Mathlib.Omega.{arith}
+use mathlib.Core.Bool.{Bool, true, false, cond, not, _&&_}
+use mathlib.Core.List.{List, [], _∷_, _++_, append-assoc, append-nil}
+use mathlib.Core.Path.{_≡_, refl, sym, ap, _∙_}
+use lib.Dec.{eqb}
+use lib.Seq.{append-snoc}
+use Rattle.machine.specs.State.{Machine}
+use Rattle.machine.specs.Steps.{byteStep}
+use Rattle.session.specs.Asked.{askedOf}
+use Rattle.session.specs.Session.{sending, asking, Answer, shown, buffer, asks}
+use Rattle.session.specs.Lines.{prints, atLine, goesIn, lineDone, isLine, Lines}
+
+-- A character of a line is no line feed, and the rest is a line.
+char : (t r : Bool) → not t && r ≡ true → t ≡ false
+char true r e = let n : _≡_ {A = ℕ} 0 1 = cc in absurd (omega arith)
+char false r e = refl
+
+rest-line : (t r : Bool) → not t && r ≡ true → r ≡ true
+rest-line true r e = let n : _≡_ {A = ℕ} 0 1 = cc in absurd (omega arith)
+rest-line false r e = e
+
+-- ---- in a line that begins with T
+
+asking-whole : (m : Machine) (l cs rest : List ℕ) → isLine cs ≡ true
+    → prints (record { machine = m; place = asking l }) (cs ++ (10 ∷ rest))
+    ≡ asks m (askedOf (l ++ cs)) .printed ++ prints (asks m (askedOf (l ++ cs)) .bench) rest
+unfolding prints
+asking-whole m l [] rest e = rw (append-nil l)
+asking-whole m l (c ∷ cs) rest e =
+    rw (char (eqb c 10) (isLine cs) e)
+    (asking-whole m (l ++ (c ∷ [])) cs rest (rest-line (eqb c 10) (isLine cs) e)
+    ∙ ap (λ (x : List ℕ). asks m (askedOf x) .printed ++ prints (asks m (askedOf x) .bench) rest) (append-snoc l c cs))
+
+asking-last : (m : Machine) (l cs : List ℕ) → isLine cs ≡ true
+    → prints (record { machine = m; place = asking l }) cs ≡ asks m (askedOf (l ++ cs)) .printed
+unfolding prints
+asking-last m l [] e = rw (append-nil l)
+asking-last m l (c ∷ cs) e =
+    rw (char (eqb c 10) (isLine cs) e)
+    (asking-last m (l ++ (c ∷ [])) cs (rest-line (eqb c 10) (isLine cs) e)
+    ∙ ap (λ (x : List ℕ). asks m (askedOf x) .printed) (append-snoc l c cs))
+
+-- ---- in a line that goes in
+
+sending-whole : (m : Machine) (cs rest : List ℕ) → isLine cs ≡ true
+    → prints (record { machine = m; place = sending }) (cs ++ (10 ∷ rest))
+    ≡ goesIn m (cs ++ (13 ∷ [])) .printed ++ prints (goesIn m (cs ++ (13 ∷ [])) .bench) rest
+unfolding prints goesIn
+sending-whole m [] rest e =
+    ap (λ (x : List ℕ). x ++ prints (atLine (byteStep m 13 buffer .machine)) rest)
+    (sym (append-nil (shown (byteStep m 13 buffer .reply))))
+sending-whole m (c ∷ cs) rest e =
+    rw (char (eqb c 10) (isLine cs) e)
+    (ap (λ (x : List ℕ). shown (byteStep m c buffer .reply) ++ x)
+    (sending-whole (byteStep m c buffer .machine) cs rest (rest-line (eqb c 10) (isLine cs) e))
+    ∙ sym (append-assoc (shown (byteStep m c buffer .reply)) _ _))
+
+sending-last : (m : Machine) (cs : List ℕ) → isLine cs ≡ true
+    → prints (record { machine = m; place = sending }) cs ≡ goesIn m (cs ++ (13 ∷ [])) .printed
+unfolding prints goesIn
+sending-last m [] e = sym (append-nil (shown (byteStep m 13 buffer .reply)))
+sending-last m (c ∷ cs) e =
+    rw (char (eqb c 10) (isLine cs) e)
+    (ap (λ (x : List ℕ). shown (byteStep m c buffer .reply) ++ x)
+    (sending-last (byteStep m c buffer .machine) cs (rest-line (eqb c 10) (isLine cs) e)))
+
+-- ---- from the first character
+
+whole-line : (m : Machine) (cs rest : List ℕ) → isLine cs ≡ true
+    → prints (atLine m) (cs ++ (10 ∷ rest)) ≡ lineDone m cs .printed ++ prints (lineDone m cs .bench) rest
+unfolding prints goesIn
+whole-line m [] rest e =
+    ap (λ (x : List ℕ). x ++ prints (atLine (byteStep m 13 buffer .machine)) rest)
+    (sym (append-nil (shown (byteStep m 13 buffer .reply))))
+whole-line m (c ∷ cs) rest e = rw (char (eqb c 10) (isLine cs) e) (by (eqb c 84))
+  where
+    r : isLine cs ≡ true
+    r = rest-line (eqb c 10) (isLine cs) e
+
+    kept : Answer
+    kept = record { bench = record { machine = m; place = asking (c ∷ []) }; printed = [] }
+
+    gone : Answer
+    gone = record {
+      bench = record { machine = byteStep m c buffer .machine; place = sending };
+      printed = shown (byteStep m c buffer .reply);
+    }
+
+    by : (t : Bool)
+        → cond t kept gone .printed ++ prints (cond t kept gone .bench) (cs ++ (10 ∷ rest))
+        ≡ cond t (asks m (askedOf (c ∷ cs))) (goesIn m (c ∷ (cs ++ (13 ∷ [])))) .printed
+        ++ prints (cond t (asks m (askedOf (c ∷ cs))) (goesIn m (c ∷ (cs ++ (13 ∷ [])))) .bench) rest
+    by true = asking-whole m (c ∷ []) cs rest r
+    by false =
+        ap (λ (x : List ℕ). shown (byteStep m c buffer .reply) ++ x)
+        (sending-whole (byteStep m c buffer .machine) cs rest r)
+        ∙ sym (append-assoc (shown (byteStep m c buffer .reply)) _ _)
+
+last-line : (m : Machine) (c : ℕ) (cs : List ℕ) → isLine (c ∷ cs) ≡ true
+    → prints (atLine m) (c ∷ cs) ≡ lineDone m (c ∷ cs) .printed
+unfolding prints goesIn
+last-line m c cs e = rw (char (eqb c 10) (isLine cs) e) (by (eqb c 84))
+  where
+    r : isLine cs ≡ true
+    r = rest-line (eqb c 10) (isLine cs) e
+
+    kept : Answer
+    kept = record { bench = record { machine = m; place = asking (c ∷ []) }; printed = [] }
+
+    gone : Answer
+    gone = record {
+      bench = record { machine = byteStep m c buffer .machine; place = sending };
+      printed = shown (byteStep m c buffer .reply);
+    }
+
+    by : (t : Bool)
+        → cond t kept gone .printed ++ prints (cond t kept gone .bench) cs
+        ≡ cond t (asks m (askedOf (c ∷ cs))) (goesIn m (c ∷ (cs ++ (13 ∷ [])))) .printed
+    by true = asking-last m (c ∷ []) cs r
+    by false =
+        ap (λ (x : List ℕ). shown (byteStep m c buffer .reply) ++ x) (sending-last (byteStep m c buffer .machine) cs r)
+
+pub lines : Lines
+unfolding prints
+lines = record { nothing = λ m. refl; whole = whole-line; last = last-line }

@@ -1,0 +1,51 @@
+-- Paper 01, "Host end and program", of whole lines: what the bench prints for an input, taken byte by byte, is what the
+-- paper says of each of its lines in turn.
+use Prim.Native.Nat.{ℕ}
+use mathlib.Core.Bool.{Bool, true, false, cond, not, _&&_}
+use mathlib.Core.List.{List, [], _∷_, _++_}
+use mathlib.Core.Path.{_≡_}
+use lib.Dec.{eqb}
+use Rattle.machine.specs.State.{Machine}
+use Rattle.machine.specs.Steps.{byteStep}
+use Rattle.session.specs.Asked.{askedOf}
+use Rattle.session.specs.Session.{starting, Bench, Answer, shown, buffer, asks, taken, finished}
+
+-- What is printed for an input, taken byte by byte to its end.
+unfoldable pub prints : Bench → List ℕ → List ℕ
+prints x [] = finished x .printed
+prints x (b ∷ bs) = taken x b .printed ++ prints (taken x b .bench) bs
+
+-- Before a line.
+abbrev pub atLine : Machine → Bench
+atLine m = record { machine = m; place = starting }
+
+-- Bytes go in one after another, and their replies print.
+unfoldable pub goesIn : Machine → List ℕ → Answer
+goesIn m [] = record { bench = atLine m; printed = [] }
+goesIn m (b ∷ bs) = record {
+  bench = goesIn (byteStep m b buffer .machine) bs .bench;
+  printed = shown (byteStep m b buffer .reply) ++ goesIn (byteStep m b buffer .machine) bs .printed;
+}
+
+abbrev pub beginsWithT : List ℕ → Bool
+beginsWithT [] = false
+beginsWithT (c ∷ cs) = eqb c 84
+
+-- A line that begins with T runs ticks or prints `?`; other lines go in with 0D for their line feed.
+abbrev pub lineDone : Machine → List ℕ → Answer
+lineDone m cs = cond (beginsWithT cs) (asks m (askedOf cs)) (goesIn m (cs ++ (13 ∷ [])))
+
+-- No character is a line feed.
+abbrev pub isLine : List ℕ → Bool
+isLine [] = true
+isLine (c ∷ cs) = not (eqb c 10) && isLine cs
+
+-- These three say what is printed for every input.
+pub record Lines : Type 0 where
+  pub nothing : (m : Machine) → prints (atLine m) [] ≡ []
+  -- a line, its line feed, and the rest of the input
+  pub whole : (m : Machine) (cs rest : List ℕ) → isLine cs ≡ true
+      → prints (atLine m) (cs ++ (10 ∷ rest)) ≡ lineDone m cs .printed ++ prints (lineDone m cs .bench) rest
+  -- the last line, which lacks its line feed
+  pub last : (m : Machine) (c : ℕ) (cs : List ℕ) → isLine (c ∷ cs) ≡ true
+      → prints (atLine m) (c ∷ cs) ≡ lineDone m (c ∷ cs) .printed
