@@ -1,3 +1,4 @@
+mod CalmLaws
 mod StepLaws
 mod ToldLaws
 pub mod TickLaws

@@ -346,6 +346,7 @@ module _ (m : Machine) (f : Fits m) where
   run-fits = record {
     wires = wires-fit m;
     dwell = f .settings .dwell;
+    counted = record { travels = refl; remainders = refl; positions = refl };
     ramp = λ e. record {
       now = f .move .speed;
       speed = f .settings .speed;
@@ -354,10 +355,5 @@ module _ (m : Machine) (f : Fits m) where
       gone = f .move .good .under e;
       phase = f .move .phase;
     };
-    pulse = λ e. record {
-      wires = wires-fit m;
-      dwell = f .settings .dwell;
-      gone = omega (arith, length-small, f .move .good .under e);
-      axes = axis-fits e;
-    };
+    axes = axis-fits;
   }

@@ -1,35 +1,63 @@
 -- Laws of one share step and one axis, over plain values. Assumes nothing.
-use Prim.Native.Nat.{ℕ, _+_, _-_, _%_, _≤_, _<_, min, max}
-use mathlib.Core.Bool.{Bool, true, false, cond, _&&_}
+use Prim.Native.Nat.{ℕ, _+_, _-_, _*_, _%_, _≤_, _<_, min, max}
+use mathlib.Core.Bool.{Bool, true, false, cond, not, _&&_, _||_}
 use mathlib.Core.Path.{_≡_, refl, sym, ap, _∙_}
 use native.Mathlib.Omega.{arith}
 use native.Mathlib.Nat.{mod-eq-of-lt, mod-eq-sub-mod}
 use borrow.Author.Tests.{le-leb, lt-leb, leb-true}
 use mathlib.Core.List.{[], _∷_}
-use lib.Dec.{leb, eqb}
-use lib.IntN.{ℤ}
+use lib.Dec.{ltb, leb, eqb}
+use lib.IntN.{ℤ, pos}
 use lib.ListN.{getD}
 use mir.Syntax.{w8}
 use mir.Val.{toZ, ofZ}
+use Rattle.laws.specs.Axes.{each}
 use Rattle.laws.proofs.Pick.{on-le, on-gt}
-use Rattle.machine.specs.Ramp.{braked, towards}
+use Rattle.machine.specs.Ramp.{full, braked, towards}
 use Rattle.reply.specs.declared.Travel.{Travel}
 use Rattle.reply.specs.declared.Position.{Position}
 use Rattle.controller.specs.declared.motion.Share.{Share}
 use Rattle.controller.specs.declared.motion.Axis.{Axis}
+use Rattle.controller.specs.declared.motion.Paced.{Paced}
 use Rattle.controller.specs.declared.motion.Ran.{Ran}
 use Rattle.controller.specs.declared.hot.Hot.{Hot}
+use Rattle.controller.specs.declared.hot.Run.{Run}
+use Rattle.controller.specs.declared.hot.Settings.{Settings}
+use Rattle.controller.specs.declared.watch.Met.{Met}
 use Rattle.controller.specs.Inner.{
+  withRun,
+  withPause,
+  rampOf,
   shareOf,
   axisBy,
   axisIn,
+  axisStill,
+  axisAt,
   pulseOf,
   wordBy,
+  restBy,
+  atRest,
   endedOf,
+  quietOf,
   steppedOf,
-  pulsedBy,
   pulsedOf,
+  spedOf,
+  standsOf,
+  runsOf,
+  advancedBy,
+  advancedTo,
+  pacedBy,
+  pacedOf,
+  leftOf,
+  afterOf,
+  ranBy,
+  ranTo,
+  Counted,
   causeOf,
+  causesBy,
+  metWith,
+  metBy,
+  stoppedBy,
 }
 
 pub mod-once : (n m : ℕ) → m ≤ n → n < m + m → n - m ≡ n % m
@@ -85,33 +113,99 @@ pulse-bits z on minus e = ap (λ (x : ℤ). toZ w8 (ofZ w8 x)) e ∙ back on min
     back true false = refl
     back false minus = refl
 
--- What a master pulse answers, from what its parts answer.
-pub pulsed-is : (h : Hot) (dwell speed phase : ℕ) (a b c d e : Axis) (hot : Hot) (w : ℕ) (z0 z1 z2 z3 z4 : ℤ)
-    → hot ≡ cond (eqb (h .run .gone + 1) (h .run .length)) (endedOf (steppedOf h speed phase a b c d e) dwell)
-    (steppedOf h speed phase a b c d e)
-    → w ≡ wordBy (h .wires) (a .on) (b .on) (c .on) (d .on) (e .on)
-    → z0 ≡ pulseOf (a .on) (getD (h .plan .minus) 0 false) → z1 ≡ pulseOf (b .on) (getD (h .plan .minus) 1 false)
-    → z2 ≡ pulseOf (c .on) (getD (h .plan .minus) 2 false) → z3 ≡ pulseOf (d .on) (getD (h .plan .minus) 3 false)
-    → z4 ≡ pulseOf (e .on) (getD (h .plan .minus) 4 false)
-    → a ≡ axisIn h 0 → b ≡ axisIn h 1 → c ≡ axisIn h 2 → d ≡ axisIn h 3 → e ≡ axisIn h 4
-    → _≡_ {A = Ran} (record {
-      hot = hot;
-      first = w;
-      pulses = toZ w8 (ofZ w8 z0) ∷ toZ w8 (ofZ w8 z1) ∷ toZ w8 (ofZ w8 z2) ∷ toZ w8 (ofZ w8 z3)
-          ∷ toZ w8 (ofZ w8 z4) ∷ [];
-    })
-    (pulsedOf h dwell speed phase)
-pulsed-is h dwell speed phase a b c d e hot w z0 z1 z2 z3 z4 eh ew e0 e1 e2 e3 e4 ea eb ec ed ee =
-    _∙_ {b = pulsedBy h dwell speed phase a b c d e}
-    (λ i. record {
-      hot = eh i;
-      first = ew i;
-      pulses = pulse-bits z0 (a .on) (getD (h .plan .minus) 0 false) e0 i ∷ pulse-bits z1 (b .on)
-          (getD (h .plan .minus) 1 false) e1 i ∷ pulse-bits z2 (c .on) (getD (h .plan .minus) 2 false) e2 i ∷ pulse-bits
-          z3 (d .on) (getD (h .plan .minus) 3 false) e3 i
-          ∷ pulse-bits z4 (e .on) (getD (h .plan .minus) 4 false) e4 i ∷ [];
-    })
-    (λ i. pulsedBy h dwell speed phase (ea i) (eb i) (ec i) (ed i) (ee i))
+-- What ramp and pulses answer, from what their parts answer.
+module _ (s : Settings) (h : Hot) where
+  pub ran-is : (p : Paced) (a b c d e : Axis) (left : ℕ) (hot : Hot) (w : ℕ) (z0 z1 z2 z3 z4 : ℤ)
+      → p ≡ pacedOf s (h .run)
+      → a ≡ axisAt h (p .fires) 0 → b ≡ axisAt h (p .fires) 1 → c ≡ axisAt h (p .fires) 2
+      → d ≡ axisAt h (p .fires) 3 → e ≡ axisAt h (p .fires) 4
+      → left ≡ leftOf (p .ends) (s .dwell) (h .pause .left) → hot ≡ afterOf h (p .run) left a b c d e
+      → w ≡ wordBy (h .wires) (a .on) (b .on) (c .on) (d .on) (e .on)
+      → z0 ≡ pulseOf (a .on) (getD (h .plan .minus) 0 false) → z1 ≡ pulseOf (b .on) (getD (h .plan .minus) 1 false)
+      → z2 ≡ pulseOf (c .on) (getD (h .plan .minus) 2 false) → z3 ≡ pulseOf (d .on) (getD (h .plan .minus) 3 false)
+      → z4 ≡ pulseOf (e .on) (getD (h .plan .minus) 4 false)
+      → _≡_ {A = Ran} (record {
+        hot = hot;
+        first = w;
+        pulses = toZ w8 (ofZ w8 z0) ∷ toZ w8 (ofZ w8 z1) ∷ toZ w8 (ofZ w8 z2) ∷ toZ w8 (ofZ w8 z3)
+            ∷ toZ w8 (ofZ w8 z4) ∷ [];
+      })
+      (ranTo s h (pacedOf s (h .run)))
+  ran-is p a b c d e left hot w z0 z1 z2 z3 z4 ep ea eb ec ed ee el eh ew e0 e1 e2 e3 e4 =
+      _∙_ {b = ranBy h (p .run) left a b c d e}
+      (λ i. record {
+        hot = eh i;
+        first = ew i;
+        pulses = pulse-bits z0 (a .on) (getD (h .plan .minus) 0 false) e0 i ∷ pulse-bits z1 (b .on)
+            (getD (h .plan .minus) 1 false) e1 i ∷ pulse-bits z2 (c .on) (getD (h .plan .minus) 2 false) e2 i
+            ∷ pulse-bits z3 (d .on) (getD (h .plan .minus) 3 false) e3 i
+            ∷ pulse-bits z4 (e .on) (getD (h .plan .minus) 4 false) e4 i ∷ [];
+      })
+      (_∙_ {b = ranTo s h p}
+      (λ i. ranBy h (p .run) (el i) (ea i) (eb i) (ec i) (ed i) (ee i))
+      (λ i. ranTo s h (ep i)))
+
+  abbrev step : Hot
+  step =
+      steppedOf h (rampOf s (h .run)) (h .run .phase + rampOf s (h .run) - full) (axisIn h 0) (axisIn h 1) (axisIn h 2)
+      (axisIn h 3) (axisIn h 4)
+
+  -- One way or many, a tick of the ramp leaves the same.
+  pub one-way : Counted (h .counters) → ranTo s h (pacedOf s (h .run)) ≡ runsOf s h
+  one-way f =
+      when (h .run .moving) (standsOf (h .run) (s .slope)) (ltb (h .run .phase + rampOf s (h .run)) full)
+      (eqb (h .run .gone + 1) (h .run .length))
+    where
+      -- A tick without a pulse leaves the counters.
+      still : (run : Run) (left : ℕ)
+          → ranBy h run left (axisStill (h .counters) 0) (axisStill (h .counters) 1) (axisStill (h .counters) 2)
+          (axisStill (h .counters) 3) (axisStill (h .counters) 4)
+          ≡ quietOf (withPause (withRun h run) (record { left = left; waiting = h .pause .waiting }))
+      still run left = λ i. record {
+        hot = record {
+          plan = h .plan;
+          counters = record {
+            travels = sym (f .travels) i;
+            remainders = sym (f .remainders) i;
+            positions = sym (f .positions) i;
+          };
+          run = run;
+          wires = h .wires;
+          pause = record { left = left; waiting = h .pause .waiting };
+          inputs = h .inputs;
+          outputs = h .outputs;
+          watch = h .watch;
+          flags = h .flags;
+        };
+        pulses = each (λ k. pos 0);
+        first = restBy (h .wires);
+      }
+
+      when : (moving stands short last : Bool)
+          → ranTo s h (pacedBy (h .run) moving stands (advancedBy (h .run) (rampOf s (h .run)) short last))
+          ≡ cond (not moving) (quietOf h)
+          (cond stands (quietOf (endedOf h (s .dwell)))
+          (cond short
+          (quietOf (withRun h (spedOf (h .run) (rampOf s (h .run)) (h .run .phase + rampOf s (h .run)))))
+          (record {
+            hot = cond last (endedOf step (s .dwell)) step;
+            pulses = pulsedOf h (s .dwell) (rampOf s (h .run)) (h .run .phase + rampOf s (h .run) - full) .pulses;
+            first = pulsedOf h (s .dwell) (rampOf s (h .run)) (h .run .phase + rampOf s (h .run) - full) .first;
+          })))
+      when false stands short last = still (h .run) (h .pause .left)
+      when true true short last = still (atRest (h .run)) (250 * s .dwell)
+      when true false true last =
+          still (spedOf (h .run) (rampOf s (h .run)) (h .run .phase + rampOf s (h .run))) (h .pause .left)
+      when true false false true = refl
+      when true false false false = refl
+
+-- Where the master pulses, a move runs.
+pub fires-moving : (s : Settings) (r : Run) (p : Paced) → p ≡ pacedOf s r → p .fires ≡ true → r .moving ≡ true
+fires-moving s r p e f = when (r .moving) (sym (ap (λ (x : Paced). x .fires) e) ∙ f)
+  where
+    when : (b : Bool) → pacedBy r b (standsOf r (s .slope)) (advancedTo r (rampOf s r)) .fires ≡ true → b ≡ true
+    when true q = refl
+    when false q = q
 
 -- ---- The ramp's two ways, by the tests that the code makes
 
@@ -144,5 +238,34 @@ pub and-second : (a b : Bool) → a && b ≡ true → b ≡ true
 and-second true b e = e
 and-second false b e = absurd (let z : _≡_ {A = ℕ} 0 1 = ap (λ (x : Bool). cond x 1 0) e in omega arith)
 
-pub causes : (e : Bool) {s t l k : Bool} → s ≡ t → l ≡ k → causeOf e s l ≡ causeOf e t k
-causes e p q = λ i. causeOf e (p i) (q i)
+or-false : (b : Bool) → b || false ≡ b
+or-false true = refl
+or-false false = refl
+
+or-true : (b : Bool) → b || true ≡ true
+or-true true = refl
+or-true false = refl
+
+-- What meets a move leaves it as the two tests do.
+pub met-is : (h : Hot) (moving emergency sensor limit : Bool)
+    → metBy h (causesBy moving emergency sensor limit)
+    ≡ cond (not moving) h (cond (not (causeOf emergency sensor limit)) h (stoppedBy h limit sensor))
+met-is h = when
+  where
+    unmet : metBy h (record { any = false; limit = false; sensor = false }) ≡ h
+    unmet = λ i.
+        metWith h (or-false (h .run .stopping) i) (or-false (h .flags .stopped) i) (or-false (h .flags .sensed) i)
+
+    met : (limit sensor : Bool)
+        → metBy h (record { any = true; limit = limit; sensor = sensor }) ≡ stoppedBy h limit sensor
+    met limit sensor = λ i.
+        metWith h (or-true (h .run .stopping) i) (h .flags .stopped || limit) (h .flags .sensed || sensor)
+
+    when : (moving emergency sensor limit : Bool)
+        → metBy h (causesBy moving emergency sensor limit)
+        ≡ cond (not moving) h (cond (not (causeOf emergency sensor limit)) h (stoppedBy h limit sensor))
+    when false emergency sensor limit = unmet
+    when true true sensor limit = met limit sensor
+    when true false true limit = met limit true
+    when true false false true = met true false
+    when true false false false = unmet

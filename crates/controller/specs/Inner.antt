@@ -6,6 +6,7 @@ use mathlib.Core.Path.{_≡_}
 use lib.Dec.{ltb, leb, eqb}
 use lib.IntN.{ℤ, pos}
 use lib.ListN.{getD}
+use lib.Bits.{bitAnd}
 use Rattle.laws.specs.Axes.{each, some, directed}
 use Rattle.inputs.specs.Inputs.{someBlocked, activeAt}
 use Rattle.outputs.specs.declared.Cells.{Cells}
@@ -25,8 +26,10 @@ use Rattle.controller.specs.declared.hot.Flags.{Flags}
 use Rattle.controller.specs.declared.hot.Wires.{Wires}
 use Rattle.controller.specs.declared.motion.Share.{Share}
 use Rattle.controller.specs.declared.motion.Axis.{Axis}
+use Rattle.controller.specs.declared.motion.Paced.{Paced}
 use Rattle.controller.specs.declared.motion.Ran.{Ran}
 use Rattle.controller.specs.declared.start.Waited.{Waited}
+use Rattle.controller.specs.declared.watch.Met.{Met}
 use Rattle.controller.specs.Held.{heldHot}
 
 -- ---- Hot with one part replaced
@@ -126,6 +129,21 @@ pub record AxisFits (p : Plan) (c : Counters) (length k : ℕ) : Type 0 where
   pub grows : length ≤ getD (c .remainders) k 0 + getD (p .distances) k 0 → travelAt c k .0 < getD (p .distances) k 0
   pub low : getD (p .minus) k false ≡ true → getD (p .distances) k 0 ≤ travelAt c k .0 + positionAt c k .0
   pub high : getD (p .minus) k false ≡ false → positionAt c k .0 + getD (p .distances) k 0 ≤ 1048575 + travelAt c k .0
+
+-- An axis in a tick in which the master does not pulse.
+abbrev pub axisStill : Counters → ℕ → Axis
+axisStill c k = record {
+  travel = travelAt c k;
+  position = positionAt c k;
+  remainder = getD (c .remainders) k 0;
+  on = false;
+}
+
+abbrev pub axisWhen : Bool → Plan → Counters → ℕ → ℕ → Axis
+axisWhen fires p c length k = cond fires (axisOf p c length k) (axisStill c k)
+
+abbrev pub StepFits : Bool → Plan → Counters → ℕ → ℕ → Type 0
+StepFits fires p c length k = fires ≡ true → AxisFits p c length k
 
 -- ---- Output words by their parts
 
@@ -236,23 +254,108 @@ runsOf s h =
     (cond (standsOf (h .run) (s .slope)) (quietOf (endedOf h (s .dwell)))
     (advancedOf h (s .dwell) (rampOf s (h .run))))
 
+-- The same on one way: the run after the tick, whether the master pulses and whether the move ends, and then all parts.
+abbrev pub atRestAt : Run → ℕ → Run
+atRestAt r gone = record {
+  length = r .length;
+  gone = gone;
+  speed = 0;
+  phase = 0;
+  master = r .master;
+  moving = false;
+  stopping = false;
+}
+
+abbrev pub underWay : Run → ℕ → ℕ → ℕ → Run
+underWay r gone speed phase = record {
+  length = r .length;
+  gone = gone;
+  speed = speed;
+  phase = phase;
+  master = r .master;
+  moving = r .moving;
+  stopping = r .stopping;
+}
+
+-- By whether the phase is short of full, and whether the next pulse is the last.
+abbrev pub advancedBy : Run → ℕ → Bool → Bool → Paced
+advancedBy r speed short last =
+    cond short (record { run = underWay r (r .gone) speed (r .phase + speed); fires = false; ends = false })
+    (cond last (record { run = atRestAt r (r .gone + 1); fires = true; ends = true })
+    (record { run = underWay r (r .gone + 1) speed (r .phase + speed - full); fires = true; ends = false }))
+
+abbrev pub advancedTo : Run → ℕ → Paced
+advancedTo r speed = advancedBy r speed (ltb (r .phase + speed) full) (eqb (r .gone + 1) (r .length))
+
+-- By whether a move runs and whether a stop has come down to the slope.
+abbrev pub pacedBy : Run → Bool → Bool → Paced → Paced
+pacedBy r moving stands goes =
+    cond (not moving) (record { run = r; fires = false; ends = false })
+    (cond stands (record { run = atRestAt r (r .gone); fires = false; ends = true })
+    goes)
+
+abbrev pub pacedOf : Settings → Run → Paced
+pacedOf s r = pacedBy r (r .moving) (standsOf r (s .slope)) (advancedTo r (rampOf s r))
+
+abbrev pub leftOf : Bool → ℕ → ℕ → ℕ
+leftOf ends dwell left = cond ends (250 * dwell) left
+
+abbrev pub afterOf : Hot → Run → ℕ → Axis → Axis → Axis → Axis → Axis → Hot
+afterOf h run left a b c d e = record {
+  plan = h .plan;
+  counters = record {
+    travels = a .travel ∷ b .travel ∷ c .travel ∷ d .travel ∷ e .travel ∷ [];
+    remainders = a .remainder ∷ b .remainder ∷ c .remainder ∷ d .remainder ∷ e .remainder ∷ [];
+    positions = a .position ∷ b .position ∷ c .position ∷ d .position ∷ e .position ∷ [];
+  };
+  run = run;
+  wires = h .wires;
+  pause = record { left = left; waiting = h .pause .waiting };
+  inputs = h .inputs;
+  outputs = h .outputs;
+  watch = h .watch;
+  flags = h .flags;
+}
+
+abbrev pub ranBy : Hot → Run → ℕ → Axis → Axis → Axis → Axis → Axis → Ran
+ranBy h run left a b c d e = record {
+  hot = afterOf h run left a b c d e;
+  pulses =
+      pulseOf (a .on) (getD (h .plan .minus) 0 false) ∷ pulseOf (b .on) (getD (h .plan .minus) 1 false)
+      ∷ pulseOf (c .on) (getD (h .plan .minus) 2 false) ∷ pulseOf (d .on) (getD (h .plan .minus) 3 false)
+      ∷ pulseOf (e .on) (getD (h .plan .minus) 4 false) ∷ [];
+  first = wordBy (h .wires) (a .on) (b .on) (c .on) (d .on) (e .on);
+}
+
+abbrev pub axisAt : Hot → Bool → ℕ → Axis
+axisAt h fires k = axisWhen fires (h .plan) (h .counters) (h .run .length) k
+
+abbrev pub ranTo : Settings → Hot → Paced → Ran
+ranTo s h p =
+    ranBy h (p .run) (leftOf (p .ends) (s .dwell) (h .pause .left)) (axisAt h (p .fires) 0) (axisAt h (p .fires) 1)
+    (axisAt h (p .fires) 2) (axisAt h (p .fires) 3) (axisAt h (p .fires) 4)
+
 -- What a tick's ramp leaves of a machine, as it is held, with the pulses and the first word.
 abbrev pub heldRan : ramp.Ran → Ran
 heldRan r = record { hot = heldHot (r .machine); first = word (r .machine) (r .pulse) true; pulses = each (r .pulse) }
 
--- What a master pulse needs.
-pub record PulseFits (h : Hot) (ms : ℕ) : Type 0 where
-  pub wires : WiresFit (h .wires)
-  pub dwell : ms ≤ 16383
-  pub gone : h .run .gone < 524287
-  pub axes : (k : ℕ) → k < 5 → AxisFits (h .plan) (h .counters) (h .run .length) k
+-- The counts of the five axes are all that is counted.
+pub record Counted (c : Counters) : Type 0 where
+  pub travels : c .travels ≡ each (travelAt c)
+  pub remainders : c .remainders ≡ each (λ k. getD (c .remainders) k 0)
+  pub positions : c .positions ≡ each (positionAt c)
+
+-- What a tick of the ramp needs.
+abbrev pub PaceFits : Settings → Run → Type 0
+PaceFits s r = r .moving ≡ true → RampFits s r
 
 -- What a tick of a move needs.
 pub record RunFits (s : Settings) (h : Hot) : Type 0 where
   pub wires : WiresFit (h .wires)
   pub dwell : s .dwell ≤ 16383
-  pub ramp : h .run .moving ≡ true → RampFits s (h .run)
-  pub pulse : h .run .moving ≡ true → PulseFits h (s .dwell)
+  pub counted : Counted (h .counters)
+  pub ramp : PaceFits s (h .run)
+  pub axes : h .run .moving ≡ true → (k : ℕ) → k < 5 → AxisFits (h .plan) (h .counters) (h .run .length) k
 
 -- ---- Starts
 
@@ -389,14 +492,21 @@ takesOf s h word =
     takesBy h word (raisedOf (h .watch)) (h .flags .emergency || activeAt (s .low) (s .high) word 12)
     (isFull (raisedOf (h .watch)) (s .watch / 2))
 
+-- No limit input is active, by the words alone.
+abbrev pub isCalm : ℕ → ℕ → ℕ → Bool
+isCalm low high inputs = eqb (bitAnd high inputs % 1024) 0 && eqb (bitAnd low inputs % 1024) (low % 1024)
+
+abbrev pub limitBy : Settings → Plan → ℕ → ℕ → Bool
+limitBy s p inputs watch = blockedIn s inputs p || isFull watch (s .watch)
+
 abbrev pub limitOf : Settings → Hot → Bool
-limitOf s h = blockedIn s (h .inputs) (h .plan) || isFull (h .watch) (s .watch)
+limitOf s h = limitBy s (h .plan) (h .inputs) (h .watch)
 
 abbrev pub causeOf : Bool → Bool → Bool → Bool
 causeOf emergency sensor limit = emergency || sensor || limit
 
-abbrev pub stoppedWith : Hot → Bool → Bool → Hot
-stoppedWith h stopped sensed =
+abbrev pub metWith : Hot → Bool → Bool → Bool → Hot
+metWith h stopping stopped sensed =
     withFlags (withRun h (record {
       length = h .run .length;
       gone = h .run .gone;
@@ -404,7 +514,7 @@ stoppedWith h stopped sensed =
       phase = h .run .phase;
       master = h .run .master;
       moving = h .run .moving;
-      stopping = true;
+      stopping = stopping;
     }))
     (record {
       wrong = h .flags .wrong;
@@ -414,10 +524,23 @@ stoppedWith h stopped sensed =
     })
 
 abbrev pub stoppedBy : Hot → Bool → Bool → Hot
-stoppedBy h limit sensor = stoppedWith h (h .flags .stopped || limit) (h .flags .sensed || sensor)
+stoppedBy h limit sensor = metWith h true (h .flags .stopped || limit) (h .flags .sensed || sensor)
 
 abbrev pub stopsOf : Settings → Hot → Hot
 stopsOf s h =
     cond (not (h .run .moving)) h
     (cond (not (causeOf (h .flags .emergency) (activeAt (s .low) (s .high) (h .inputs) 13) (limitOf s h))) h
     (stoppedBy h (limitOf s h) (activeAt (s .low) (s .high) (h .inputs) 13)))
+
+-- The same on one way: what meets a running move, and what that leaves.
+abbrev pub causesBy : Bool → Bool → Bool → Bool → Met
+causesBy moving emergency sensor limit =
+    cond (not moving) (record { any = false; limit = false; sensor = false })
+    (record { any = causeOf emergency sensor limit; limit = limit; sensor = sensor })
+
+abbrev pub causesOf : Settings → Plan → Bool → Bool → ℕ → ℕ → Met
+causesOf s p moving emergency inputs watch =
+    causesBy moving emergency (activeAt (s .low) (s .high) inputs 13) (limitBy s p inputs watch)
+
+abbrev pub metBy : Hot → Met → Hot
+metBy h c = metWith h (h .run .stopping || c .any) (h .flags .stopped || c .limit) (h .flags .sensed || c .sensor)

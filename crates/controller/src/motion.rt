@@ -6,21 +6,22 @@ ghost use Rattle.controller.specs.Inner.{
   rampOf,
   shareOf,
   pulseOf,
-  axisOf,
+  axisWhen,
   levelOf,
   wordBy,
   restBy,
-  quietOf,
-  endedOf,
-  pulsedOf,
-  steppedOf,
-  advancedOf,
   standsOf,
+  atRestAt,
+  underWay,
+  advancedTo,
+  pacedOf,
+  leftOf,
+  afterOf,
   runsOf,
   RampFits,
-  AxisFits,
+  StepFits,
   WiresFit,
-  PulseFits,
+  PaceFits,
   RunFits,
 };
 use crate::hot::Counters;
@@ -133,14 +134,23 @@ pub struct Axis {
     pub on: bool,
 }
 
-// One axis at a master pulse: its travel and position grow by one where it pulses.
-fn axis_step(plan: Plan, counters: Counters, length: u32, k: usize) -> Axis
-    requires { ⌜ AxisFits plan counters length k ⌝ }
-    ensures { λ r. ⌜ r ≡ axisOf plan counters length k ⌝ }
+// One axis in a tick: where the master pulses and its share grows, its travel and position go one further.
+fn axis_step(fires: bool, plan: Plan, counters: Counters, length: u32, k: usize) -> Axis
+    requires { ⌜ (k < 5) × StepFits fires plan counters length k ⌝ }
+    ensures { λ r. ⌜ r ≡ axisWhen fires plan counters length k ⌝ }
 {
     let t = counters.travels[k];
     let p = counters.positions[k];
-    let s = share_step(counters.remainders[k], plan.distances[k], length);
+    let remainder = counters.remainders[k];
+    if !fires {
+        return Axis {
+            travel: t,
+            position: p,
+            remainder,
+            on: false,
+        };
+    }
+    let s = share_step(remainder, plan.distances[k], length);
     if s.on {
         if plan.minus[k] {
             return Axis {
@@ -198,92 +208,121 @@ pub(crate) fn rest(wires: Wires) -> u32
     word(wires, false, false, false, false, false)
 }
 
-// What a tick of the ramp leaves, the pulses, and the first output word.
-pub struct Ran {
-    pub hot: Hot,
-    pub first: u32,
-    pub pulses: [i8; 5],
-}
-
-fn quiet(hot: Hot) -> Ran
-    requires { ⌜ WiresFit (hot .wires) ⌝ }
-    ensures { λ r. ⌜ r ≡ quietOf hot ⌝ }
+// Whether a stop has come down to the slope.
+fn stands(run: Run, slope: u32) -> bool
+    ensures { λ r. ⌜ r ≡ standsOf run slope ⌝ }
 {
-    let wires = hot.wires;
-    let first = rest(wires);
-    Ran {
-        hot,
-        first,
-        pulses: [0; 5],
+    if run.stopping {
+        return run.speed <= slope;
     }
+    false
 }
 
-// The move has ended: speed and phase 0, and the dwell starts.
-fn ended(hot: Hot, dwell: u32) -> Hot
-    requires { ⌜ dwell ≤ 16383 ⌝ }
-    ensures { λ r. ⌜ r ≡ endedOf hot dwell ⌝ }
+// The run after a tick of the ramp, whether the master pulses in it, and whether the move ends in it.
+pub struct Paced {
+    pub run: Run,
+    pub fires: bool,
+    pub ends: bool,
+}
+
+// The move has ended: speed and phase 0.
+fn at_rest(was: Run, gone: u32) -> Run
+    ensures { λ r. ⌜ r ≡ atRestAt was gone ⌝ }
 {
-    let was = hot.run;
-    let pause = hot.pause;
-    let run = Run {
+    Run {
         length: was.length,
-        gone: was.gone,
+        gone,
         speed: 0,
         phase: 0,
         master: was.master,
         moving: false,
         stopping: false,
-    };
-    let pause = Pause {
-        left: TICKS_PER_MS * dwell,
-        waiting: pause.waiting,
-    };
-    let mut next = hot;
-    next.run = run;
-    next.pause = pause;
-    next
+    }
 }
 
-// A master pulse.
-fn pulsed(hot: Hot, dwell: u32, speed: u32, phase: u32) -> Ran
-    requires { ⌜ PulseFits hot dwell ⌝ }
-    ensures { λ r. ⌜ r ≡ pulsedOf hot dwell speed phase ⌝ }
+fn under_way(was: Run, gone: u32, speed: u32, phase: u32) -> Run
+    ensures { λ r. ⌜ r ≡ underWay was gone speed phase ⌝ }
 {
-    let plan = hot.plan;
-    let counters = hot.counters;
-    let wires = hot.wires;
-    let was = hot.run;
-    let length = was.length;
-    let a = axis_step(plan, counters, length, 0);
-    let b = axis_step(plan, counters, length, 1);
-    let c = axis_step(plan, counters, length, 2);
-    let d = axis_step(plan, counters, length, 3);
-    let e = axis_step(plan, counters, length, 4);
-    let next = stepped(hot, speed, phase, a, b, c, d, e);
-    let minus = plan.minus;
-    let pulses = [
-        pulse(a.on, minus[0]),
-        pulse(b.on, minus[1]),
-        pulse(c.on, minus[2]),
-        pulse(d.on, minus[3]),
-        pulse(e.on, minus[4]),
-    ];
-    let first = word(wires, a.on, b.on, c.on, d.on, e.on);
-    if was.gone + 1 == length {
-        let hot = ended(next, dwell);
-        return Ran { hot, first, pulses };
-    }
-    Ran {
-        hot: next,
-        first,
-        pulses,
+    Run {
+        length: was.length,
+        gone,
+        speed,
+        phase,
+        master: was.master,
+        moving: was.moving,
+        stopping: was.stopping,
     }
 }
 
-// Hot with the counters after a master pulse.
-fn stepped(hot: Hot, speed: u32, phase: u32, a: Axis, b: Axis, c: Axis, d: Axis, e: Axis) -> Hot
-    requires { ⌜ hot .run .gone < 524287 ⌝ }
-    ensures { λ r. ⌜ r ≡ steppedOf hot speed phase a b c d e ⌝ }
+// The phase grows by the speed, and the master pulses where it is full.
+fn advance(was: Run, speed: u32) -> Paced
+    requires { ⌜ (speed ≤ 50000000) × (was .phase < 50000000) × (was .gone < 524287) ⌝ }
+    ensures { λ r. ⌜ r ≡ advancedTo was speed ⌝ }
+{
+    let grown = was.phase + speed;
+    if grown < FULL {
+        let run = under_way(was, was.gone, speed, grown);
+        return Paced {
+            run,
+            fires: false,
+            ends: false,
+        };
+    }
+    let gone = was.gone + 1;
+    if gone == was.length {
+        let run = at_rest(was, gone);
+        return Paced {
+            run,
+            fires: true,
+            ends: true,
+        };
+    }
+    let run = under_way(was, gone, speed, grown - FULL);
+    Paced {
+        run,
+        fires: true,
+        ends: false,
+    }
+}
+
+// A tick of the ramp: nothing at rest; the end of a stop; or the speed of this tick and what comes of it.
+fn pace(settings: Settings, was: Run) -> Paced
+    requires { ⌜ PaceFits settings was ⌝ }
+    ensures { λ r. ⌜ r ≡ pacedOf settings was ⌝ }
+{
+    if !was.moving {
+        return Paced {
+            run: was,
+            fires: false,
+            ends: false,
+        };
+    }
+    if stands(was, settings.slope) {
+        let run = at_rest(was, was.gone);
+        return Paced {
+            run,
+            fires: false,
+            ends: true,
+        };
+    }
+    let speed = ramp(settings, was);
+    advance(was, speed)
+}
+
+// The ticks of the dwell that are left: the end of a move begins one.
+fn dwell_left(ends: bool, dwell: u32, left: u32) -> u32
+    requires { ⌜ dwell ≤ 16383 ⌝ }
+    ensures { λ r. ⌜ r ≡ leftOf ends dwell left ⌝ }
+{
+    if ends {
+        return TICKS_PER_MS * dwell;
+    }
+    left
+}
+
+// Hot with what a tick alters in it.
+fn stepped(hot: Hot, run: Run, left: u32, a: Axis, b: Axis, c: Axis, d: Axis, e: Axis) -> Hot
+    ensures { λ r. ⌜ r ≡ afterOf hot run left a b c d e ⌝ }
 {
     let ta = a.travel;
     let tb = b.travel;
@@ -306,69 +345,58 @@ fn stepped(hot: Hot, speed: u32, phase: u32, a: Axis, b: Axis, c: Axis, d: Axis,
         ],
         positions: [pa, pb, pc, pd, pe],
     };
-    let was = hot.run;
-    let run = Run {
-        length: was.length,
-        gone: was.gone + 1,
-        speed,
-        phase,
-        master: was.master,
-        moving: was.moving,
-        stopping: was.stopping,
+    let was = hot.pause;
+    let pause = Pause {
+        left,
+        waiting: was.waiting,
     };
     let mut next = hot;
     next.counters = counters;
     next.run = run;
+    next.pause = pause;
     next
 }
 
-// The phase grows by the speed, and the master pulses where it is full.
-fn advanced(hot: Hot, dwell: u32, speed: u32) -> Ran
-    requires { ⌜ (speed ≤ 50000000) × (hot .run .phase < 50000000) × PulseFits hot dwell ⌝ }
-    ensures { λ r. ⌜ r ≡ advancedOf hot dwell speed ⌝ }
-{
-    let was = hot.run;
-    let grown = was.phase + speed;
-    if grown < FULL {
-        let run = Run {
-            length: was.length,
-            gone: was.gone,
-            speed,
-            phase: grown,
-            master: was.master,
-            moving: was.moving,
-            stopping: was.stopping,
-        };
-        let mut next = hot;
-        next.run = run;
-        return quiet(next);
-    }
-    pulsed(hot, dwell, speed, grown - FULL)
+// What the ramp and the pulses of a tick leave, the pulses, and the first output word.
+pub struct Ran {
+    pub hot: Hot,
+    pub first: u32,
+    pub pulses: [i8; 5],
 }
 
-// Whether a stop has come down to the slope.
-fn stands(run: Run, slope: u32) -> bool
-    ensures { λ r. ⌜ r ≡ standsOf run slope ⌝ }
-{
-    if run.stopping {
-        return run.speed <= slope;
-    }
-    false
-}
-
-// A tick of the ramp: nothing at rest; the end of a stop; or the speed of this tick and what comes of it.
+// Ramp and pulses. One way through for every tick, so that the state is made once, at the end.
 pub(crate) fn runs(settings: Settings, hot: Hot) -> Ran
     requires { ⌜ RunFits settings hot ⌝ }
     ensures { λ r. ⌜ r ≡ runsOf settings hot ⌝ }
 {
-    let run = hot.run;
-    if !run.moving {
-        return quiet(hot);
+    let was = hot.run;
+    let plan = hot.plan;
+    let counters = hot.counters;
+    let wires = hot.wires;
+    let paced = pace(settings, was);
+    let fires = paced.fires;
+    let length = was.length;
+    let a = axis_step(fires, plan, counters, length, 0);
+    let b = axis_step(fires, plan, counters, length, 1);
+    let c = axis_step(fires, plan, counters, length, 2);
+    let d = axis_step(fires, plan, counters, length, 3);
+    let e = axis_step(fires, plan, counters, length, 4);
+    let minus = plan.minus;
+    let pulses = [
+        pulse(a.on, minus[0]),
+        pulse(b.on, minus[1]),
+        pulse(c.on, minus[2]),
+        pulse(d.on, minus[3]),
+        pulse(e.on, minus[4]),
+    ];
+    let first = word(wires, a.on, b.on, c.on, d.on, e.on);
+    let pause = hot.pause;
+    let left = dwell_left(paced.ends, settings.dwell, pause.left);
+    let run = paced.run;
+    let next = stepped(hot, run, left, a, b, c, d, e);
+    Ran {
+        hot: next,
+        first,
+        pulses,
     }
-    if stands(run, settings.slope) {
-        let still = ended(hot, settings.dwell);
-        return quiet(still);
-    }
-    let speed = ramp(settings, run);
-    advanced(hot, settings.dwell, speed)
 }

@@ -1,6 +1,6 @@
 // A start: what turns it away, what it begins, and the dwell that it may wait for (paper 01, "Turned away" 12 to 17).
 ghost use mathlib.Core.Path.{_≡_};
-ghost use Prim.Native.Nat.{_≤_, _<_};
+ghost use Prim.Native.Nat.{_≤_, _<_, _-_};
 ghost use Rattle.controller.specs.Inner.{
   longerOf,
   leavesOf,
@@ -10,7 +10,6 @@ ghost use Rattle.controller.specs.Inner.{
   begunOf,
   failedOf,
   dueOf,
-  countedOf,
   isDue,
   waitsOf,
   StartFits,
@@ -202,33 +201,27 @@ fn due(settings: Settings, next: Plan, switch: u8, hot: Hot, master: u8) -> Wait
     requires { ⌜ (master < 5) × StartFits next (hot .counters) ⌝ }
     ensures { λ r. ⌜ r ≡ dueOf settings next switch hot master ⌝ }
 {
-    let number = start_number(settings, next, hot, master);
+    let was = hot;
+    let number = start_number(settings, next, was, master);
+    let mut after = hot;
     if number == 0 {
         let started = begun(next, settings.polarity, switch, hot, master);
-        return Waited {
-            hot: started,
-            number: 0,
-        };
+        after = started;
+    } else {
+        let dropped = failed(hot, number);
+        after = dropped;
     }
-    let hot = failed(hot, number);
-    Waited { hot, number }
+    Waited { hot: after, number }
 }
 
 // One tick of the dwell less.
-fn counted(hot: Hot) -> Hot
-    ensures { λ r. ⌜ r ≡ countedOf hot ⌝ }
+fn lessened(left: u32) -> u32
+    ensures { λ r. ⌜ r ≡ left - 1 ⌝ }
 {
-    let pause = hot.pause;
-    if pause.left == 0 {
-        return hot;
+    if left == 0 {
+        return 0;
     }
-    let mut next = hot;
-    let pause = Pause {
-        left: pause.left - 1,
-        waiting: pause.waiting,
-    };
-    next.pause = pause;
-    next
+    left - 1
 }
 
 fn is_due(pause: Pause) -> bool
@@ -240,15 +233,27 @@ fn is_due(pause: Pause) -> bool
     false
 }
 
-// Count the dwell down and, when it becomes 0, try a waiting start.
+// Count the dwell down and, when it becomes 0, try a waiting start. The two ways write to one variable: a copy each
+// would keep the whole state in memory in every tick.
 pub(crate) fn waits(settings: Settings, next: Plan, switch: u8, hot: Hot) -> Waited
     requires { ⌜ WaitFits next hot ⌝ }
     ensures { λ r. ⌜ r ≡ waitsOf settings next switch hot ⌝ }
 {
     let pause = hot.pause;
+    let mut after = hot;
+    let mut number = 0;
     if is_due(pause) {
-        return due(settings, next, switch, hot, pause.waiting - 1);
+        let was = hot;
+        let waited = due(settings, next, switch, was, pause.waiting - 1);
+        let tried = waited.hot;
+        after = tried;
+        number = waited.number;
+    } else {
+        let left = Pause {
+            left: lessened(pause.left),
+            waiting: pause.waiting,
+        };
+        after.pause = left;
     }
-    let hot = counted(hot);
-    Waited { hot, number: 0 }
+    Waited { hot: after, number }
 }

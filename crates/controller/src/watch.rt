@@ -1,10 +1,11 @@
 // The tick's first stages and its stop causes (paper 01, "Stops", tick order).
 ghost use mathlib.Core.Path.{_≡_};
 ghost use Prim.Native.Nat.{_/_, min, _+_};
-ghost use Rattle.controller.specs.Inner.{raisedOf, isFull, takesOf, limitOf, causeOf, stopsOf};
+ghost use Rattle.controller.specs.Inner.{raisedOf, isFull, takesOf, isCalm, limitBy, causeOf, causesOf, stopsOf};
 use crate::hot;
 use crate::hot::Flags;
 use crate::hot::Hot;
+use crate::hot::Plan;
 use crate::hot::Run;
 use crate::hot::Settings;
 use crate::hot::Wires;
@@ -58,17 +59,32 @@ pub(crate) fn takes(settings: Settings, was: Hot, word: u32) -> Hot
     next
 }
 
-// A limit or the watch: the causes that set bit 3.
-fn limit_or_watch(settings: Settings, was: Hot) -> bool
-    ensures { λ r. ⌜ r ≡ limitOf settings was ⌝ }
+// Whether no limit input is active: all that low-ON has are high, none that high-ON has is. Few ticks need more.
+fn is_calm(low: u32, high: u32, inputs: u32) -> bool
+    ensures { λ r. ⌜ r ≡ isCalm low high inputs ⌝ }
 {
-    let plan = was.plan;
-    let distances = plan.distances;
-    let minus = plan.minus;
-    if inputs::blocked(settings.low, settings.high, was.inputs, distances, minus) {
+    if (high & inputs) % 1024 == 0 {
+        return (low & inputs) % 1024 == low % 1024;
+    }
+    false
+}
+
+// A limit or the watch: the causes that set bit 3. The arrays are made anew, so that no tick has to keep the plan in
+// memory for a call that few make.
+fn limit_or_watch(settings: Settings, plan: Plan, inputs: u32, watch: u32) -> bool
+    ensures { λ r. ⌜ r ≡ limitBy settings plan inputs watch ⌝ }
+{
+    if is_calm(settings.low, settings.high, inputs) {
+        return is_full(watch, settings.watch);
+    }
+    let d = plan.distances;
+    let m = plan.minus;
+    let distances = [d[0], d[1], d[2], d[3], d[4]];
+    let minus = [m[0], m[1], m[2], m[3], m[4]];
+    if inputs::blocked(settings.low, settings.high, inputs, distances, minus) {
         return true;
     }
-    is_full(was.watch, settings.watch)
+    is_full(watch, settings.watch)
 }
 
 fn has_cause(emergency: bool, sensor: bool, limit: bool) -> bool
@@ -83,25 +99,56 @@ fn has_cause(emergency: bool, sensor: bool, limit: bool) -> bool
     limit
 }
 
+// What meets a running move: any cause, a limit or the watch, the sensor.
+pub struct Met {
+    pub any: bool,
+    pub limit: bool,
+    pub sensor: bool,
+}
+
+fn causes(
+    settings: Settings,
+    plan: Plan,
+    moving: bool,
+    emergency: bool,
+    inputs: u32,
+    watch: u32,
+) -> Met
+    ensures { λ r. ⌜ r ≡ causesOf settings plan moving emergency inputs watch ⌝ }
+{
+    if !moving {
+        return Met {
+            any: false,
+            limit: false,
+            sensor: false,
+        };
+    }
+    let sensor = inputs::sensor(settings.low, settings.high, inputs);
+    let limit = limit_or_watch(settings, plan, inputs, watch);
+    let any = has_cause(emergency, sensor, limit);
+    Met { any, limit, sensor }
+}
+
 // Begin a stop of a running move that a cause meets, and mark bits 3 and 6.
 pub(crate) fn stops(settings: Settings, was: Hot) -> Hot
     ensures { λ r. ⌜ r ≡ stopsOf settings was ⌝ }
 {
     let run = was.run;
-    if !run.moving {
-        return was;
-    }
     let told = was.flags;
-    let sensor = inputs::sensor(settings.low, settings.high, was.inputs);
-    let limit = limit_or_watch(settings, was);
-    if !has_cause(told.emergency, sensor, limit) {
-        return was;
-    }
+    let plan = was.plan;
+    let met = causes(
+        settings,
+        plan,
+        run.moving,
+        told.emergency,
+        was.inputs,
+        was.watch,
+    );
     let flags = Flags {
         wrong: told.wrong,
-        stopped: hot::either(told.stopped, limit),
+        stopped: hot::either(told.stopped, met.limit),
         emergency: told.emergency,
-        sensed: hot::either(told.sensed, sensor),
+        sensed: hot::either(told.sensed, met.sensor),
     };
     let run = Run {
         length: run.length,
@@ -110,7 +157,7 @@ pub(crate) fn stops(settings: Settings, was: Hot) -> Hot
         phase: run.phase,
         master: run.master,
         moving: run.moving,
-        stopping: true,
+        stopping: hot::either(run.stopping, met.any),
     };
     let mut next = was;
     next.run = run;

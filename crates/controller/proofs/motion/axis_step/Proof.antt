@@ -2,8 +2,10 @@
 use borrow.Author.Needs.{needs}
 use native.Mathlib.Omega.{arith}
 use mathlib.Core.Bool.{false}
-use mathlib.Core.Path.{ap, _∙_}
+use mathlib.Core.Path.{refl, sym, ap, _∙_}
+use borrow.Author.Tests.{not-true, not-false}
 use lib.ListN.{getD}
+use Rattle.laws.proofs.Pick.{on-true, on-false}
 use Rattle.controller.specs.declared.motion.Share.{Share}
 use Rattle.controller.specs.Inner.{travelAt, positionAt, axisBy}
 use Rattle.controller.proofs.StepLaws.{grown, axis-down, axis-up, axis-still}
@@ -22,114 +24,119 @@ mul-p c = search needs
 element-copy-out-p : tie.Need-element-copy-out-p
 element-copy-out-p c = search needs
 
+mul-remainder : tie.Need-mul-remainder
+mul-remainder c = search needs
+
+element-copy-out-remainder : tie.Need-element-copy-out-remainder
+element-copy-out-remainder c = search needs
+
+returns : tie.Need-returns
+returns c = on-false _ _ _ _ (not-true (c .before .before .before .before .args .fires) (c .if1 .taken)) refl
+
 mul-share-step : tie.Need-mul-share-step
 mul-share-step c = search needs
 
 element-copy-out-share-step : tie.Need-element-copy-out-share-step
 element-copy-out-share-step c = search needs
 
-mul-share-step-2 : tie.Need-mul-share-step-2
-mul-share-step-2 c = search needs
-
-element-copy-out-share-step-2 : tie.Need-element-copy-out-share-step-2
-element-copy-out-share-step-2 c = search needs
-
 share-step-requires : tie.Need-share-step-requires
-share-step-requires c κs = search needs
+share-step-requires c κs =
+    let q = c .before .before .before .before .before in
+    let f = q .pre .1 (not-false (q .args .fires) (c .before .if1 .left)) in
+    (f .small, f .short, f .bound)
 
-element-copy-out-if2 : tie.Need-element-copy-out-if2
-element-copy-out-if2 c = search needs
+element-copy-out-if3 : tie.Need-element-copy-out-if3
+element-copy-out-if3 c = search needs
 
 add-t29 : tie.Need-add-t29
 add-t29 c =
-    let q = c .before .before .before .before .before .before .before .before .before in
+    let q = c .before .before .before .before .before .before .before .before .before .before in
     let s = c .before .before .before .before .share-step in
-    let r = getD (q .args .t2 .remainders) (q .args .k) 0 in
-    let d = getD (q .args .t1 .distances) (q .args .k) 0 in
+    let r = getD (q .args .t3 .remainders) (q .args .k) 0 in
+    let d = getD (q .args .t2 .distances) (q .args .k) 0 in
+    let f = q .pre .1 (not-false (q .args .fires) (c .before .before .before .before .before .before .if1 .left)) in
     omega (
       arith,
-      q .pre .grows (grown (s .result) r d (q .args .length) (s .ensures)
-          (c .before .before .before .if1 .taken)),
-      q .pre .short,
-      q .pre .bound,
+      f .grows (grown (s .result) r d (q .args .length) (s .ensures)
+          (c .before .before .before .if2 .taken)),
+      f .short,
+      f .bound,
     )
 
 sub-t31 : tie.Need-sub-t31
 sub-t31 c =
-    let q = c .before .before .before .before .before .before .before .before .before .before in
+    let q = c .before .before .before .before .before .before .before .before .before .before .before in
     let s = c .before .before .before .before .before .share-step in
-    let r = getD (q .args .t2 .remainders) (q .args .k) 0 in
-    let d = getD (q .args .t1 .distances) (q .args .k) 0 in
+    let r = getD (q .args .t3 .remainders) (q .args .k) 0 in
+    let d = getD (q .args .t2 .distances) (q .args .k) 0 in
+    let f = q .pre .1 (not-false (q .args .fires) (c .before .before .before .before .before .before .before .if1 .left)) in
     omega (
       arith,
-      q .pre .grows (grown (s .result) r d (q .args .length) (s .ensures)
-          (c .before .before .before .before .if1 .taken)),
-      q .pre .low (c .before .before .if2 .taken),
-    )
-
-returns : tie.Need-returns
-returns c =
-    let q = c .before .before .before .before .before .before .before .before .before .before in
-    let s = c .before .before .before .before .before .share-step in
-    let r = getD (q .args .t2 .remainders) (q .args .k) 0 in
-    let d = getD (q .args .t1 .distances) (q .args .k) 0 in
-    axis-down (s .result) (travelAt (q .args .t2) (q .args .k)) (positionAt (q .args .t2) (q .args .k))
-    (getD (q .args .t1 .minus) (q .args .k) false) (c .before .before .before .before .if1 .taken)
-    (c .before .before .if2 .taken)
-    ∙ ap (λ (x : Share). axisBy x (travelAt (q .args .t2) (q .args .k)) (positionAt (q .args .t2) (q .args .k))
-    (getD (q .args .t1 .minus) (q .args .k) false)) (s .ensures)
-
-add-t33 : tie.Need-add-t33
-add-t33 c =
-    let q = c .before .before .before .before .before .before .before .before .before in
-    let s = c .before .before .before .before .share-step in
-    let r = getD (q .args .t2 .remainders) (q .args .k) 0 in
-    let d = getD (q .args .t1 .distances) (q .args .k) 0 in
-    omega (
-      arith,
-      q .pre .grows (grown (s .result) r d (q .args .length) (s .ensures)
-          (c .before .before .before .if1 .taken)),
-      q .pre .short,
-      q .pre .bound,
-    )
-
-add-t35 : tie.Need-add-t35
-add-t35 c =
-    let q = c .before .before .before .before .before .before .before .before .before .before in
-    let s = c .before .before .before .before .before .share-step in
-    let r = getD (q .args .t2 .remainders) (q .args .k) 0 in
-    let d = getD (q .args .t1 .distances) (q .args .k) 0 in
-    omega (
-      arith,
-      q .pre .grows (grown (s .result) r d (q .args .length) (s .ensures)
-          (c .before .before .before .before .if1 .taken)),
-      q .pre .high (c .before .before .if2 .left),
-      q .pre .short,
-      q .pre .bound,
+      f .grows (grown (s .result) r d (q .args .length) (s .ensures)
+          (c .before .before .before .before .if2 .taken)),
+      f .low (c .before .before .if3 .taken),
     )
 
 returns-2 : tie.Need-returns-2
 returns-2 c =
-    let q = c .before .before .before .before .before .before .before .before .before .before in
+    let q = c .before .before .before .before .before .before .before .before .before .before .before in
     let s = c .before .before .before .before .before .share-step in
-    let r = getD (q .args .t2 .remainders) (q .args .k) 0 in
-    let d = getD (q .args .t1 .distances) (q .args .k) 0 in
-    axis-up (s .result) (travelAt (q .args .t2) (q .args .k)) (positionAt (q .args .t2) (q .args .k))
-    (getD (q .args .t1 .minus) (q .args .k) false) (c .before .before .before .before .if1 .taken)
-    (c .before .before .if2 .left)
-    ∙ ap (λ (x : Share). axisBy x (travelAt (q .args .t2) (q .args .k)) (positionAt (q .args .t2) (q .args .k))
-    (getD (q .args .t1 .minus) (q .args .k) false)) (s .ensures)
+    on-true _ _ _ _ (not-false (q .args .fires) (c .before .before .before .before .before .before .before .if1 .left))
+    (axis-down (s .result) (travelAt (q .args .t3) (q .args .k)) (positionAt (q .args .t3) (q .args .k))
+    (getD (q .args .t2 .minus) (q .args .k) false) (c .before .before .before .before .if2 .taken) (c .before .before .if3 .taken)
+    ∙ ap (λ (x : Share). axisBy x (travelAt (q .args .t3) (q .args .k)) (positionAt (q .args .t3) (q .args .k))
+    (getD (q .args .t2 .minus) (q .args .k) false)) (s .ensures))
+
+add-t33 : tie.Need-add-t33
+add-t33 c =
+    let q = c .before .before .before .before .before .before .before .before .before .before in
+    let s = c .before .before .before .before .share-step in
+    let r = getD (q .args .t3 .remainders) (q .args .k) 0 in
+    let d = getD (q .args .t2 .distances) (q .args .k) 0 in
+    let f = q .pre .1 (not-false (q .args .fires) (c .before .before .before .before .before .before .if1 .left)) in
+    omega (
+      arith,
+      f .grows (grown (s .result) r d (q .args .length) (s .ensures)
+          (c .before .before .before .if2 .taken)),
+      f .short,
+      f .bound,
+    )
+
+add-t35 : tie.Need-add-t35
+add-t35 c =
+    let q = c .before .before .before .before .before .before .before .before .before .before .before in
+    let s = c .before .before .before .before .before .share-step in
+    let r = getD (q .args .t3 .remainders) (q .args .k) 0 in
+    let d = getD (q .args .t2 .distances) (q .args .k) 0 in
+    let f = q .pre .1 (not-false (q .args .fires) (c .before .before .before .before .before .before .before .if1 .left)) in
+    omega (
+      arith,
+      f .grows (grown (s .result) r d (q .args .length) (s .ensures)
+          (c .before .before .before .before .if2 .taken)),
+      f .high (c .before .before .if3 .left),
+      f .short,
+      f .bound,
+    )
 
 returns-3 : tie.Need-returns-3
 returns-3 c =
-    let q = c .before .before .before .before .before .before in
+    let q = c .before .before .before .before .before .before .before .before .before .before .before in
+    let s = c .before .before .before .before .before .share-step in
+    on-true _ _ _ _ (not-false (q .args .fires) (c .before .before .before .before .before .before .before .if1 .left))
+    (axis-up (s .result) (travelAt (q .args .t3) (q .args .k)) (positionAt (q .args .t3) (q .args .k))
+    (getD (q .args .t2 .minus) (q .args .k) false) (c .before .before .before .before .if2 .taken) (c .before .before .if3 .left)
+    ∙ ap (λ (x : Share). axisBy x (travelAt (q .args .t3) (q .args .k)) (positionAt (q .args .t3) (q .args .k))
+    (getD (q .args .t2 .minus) (q .args .k) false)) (s .ensures))
+
+returns-4 : tie.Need-returns-4
+returns-4 c =
+    let q = c .before .before .before .before .before .before .before in
     let s = c .before .share-step in
-    let r = getD (q .args .t2 .remainders) (q .args .k) 0 in
-    let d = getD (q .args .t1 .distances) (q .args .k) 0 in
-    axis-still (s .result) (travelAt (q .args .t2) (q .args .k)) (positionAt (q .args .t2) (q .args .k))
-    (getD (q .args .t1 .minus) (q .args .k) false) (c .if1 .left)
-    ∙ ap (λ (x : Share). axisBy x (travelAt (q .args .t2) (q .args .k)) (positionAt (q .args .t2) (q .args .k))
-    (getD (q .args .t1 .minus) (q .args .k) false)) (s .ensures)
+    on-true _ _ _ _ (not-false (q .args .fires) (c .before .before .before .if1 .left))
+    (axis-still (s .result) (travelAt (q .args .t3) (q .args .k)) (positionAt (q .args .t3) (q .args .k))
+    (getD (q .args .t2 .minus) (q .args .k) false) (c .if2 .left)
+    ∙ ap (λ (x : Share). axisBy x (travelAt (q .args .t3) (q .args .k)) (positionAt (q .args .t3) (q .args .k))
+    (getD (q .args .t2 .minus) (q .args .k) false)) (s .ensures))
 
 pub axis-step-spec : {M : Type 1} → statement M
 axis-step-spec =
@@ -139,16 +146,17 @@ axis-step-spec =
     element-copy-out-t
     mul-p
     element-copy-out-p
+    mul-remainder
+    element-copy-out-remainder
+    returns
     mul-share-step
     element-copy-out-share-step
-    mul-share-step-2
-    element-copy-out-share-step-2
     share-step-requires
-    element-copy-out-if2
+    element-copy-out-if3
     add-t29
     sub-t31
-    returns
+    returns-2
     add-t33
     add-t35
-    returns-2
-    returns-3)
+    returns-3
+    returns-4)

@@ -1,64 +1,146 @@
--- `runs` meets its contract: each return, by the tests and the answers that led there. Assumes nothing.
+-- `runs` meets its contract: its one way is every way of a tick. Assumes nothing.
 use borrow.Author.Needs.{needs}
-use Prim.Native.Nat.{ℕ}
-use mathlib.Core.Path.{sym, ap, subst, _∙_}
-use borrow.Author.Tests.{not-false}
-use Rattle.laws.proofs.Pick.{on-true, on-false}
-use Rattle.controller.specs.declared.hot.Hot.{Hot}
-use Rattle.controller.specs.Inner.{WiresFit, quietOf, advancedOf}
+use native.Mathlib.Omega.{arith}
+use mathlib.Core.Path.{_∙_}
+use Rattle.controller.proofs.StepLaws.{ran-is, one-way, fires-moving}
 use Rattle.controller.proofs.motion.runs.Statement.{statement}
 use Rattle.controller.proofs.motion.runs.Tie as tie
 
-quiet-requires : tie.Need-quiet-requires
-quiet-requires c κs = search needs
+pace-requires : tie.Need-pace-requires
+pace-requires c κs = search needs
+
+axis-step-requires : tie.Need-axis-step-requires
+axis-step-requires c κs =
+    let q = c .before .before .before .before .before in
+    let p = c .pace in (
+      omega arith,
+      λ f. q .pre .axes (fires-moving (q .args .settings) (q .args .hot .run) (p .result) (p .ensures) f) 0 (omega arith),
+    )
+
+axis-step-requires-2 : tie.Need-axis-step-requires-2
+axis-step-requires-2 c κs =
+    let q = c .before .before .before .before .before .before in
+    let p = c .before .pace in (
+      omega arith,
+      λ f. q .pre .axes (fires-moving (q .args .settings) (q .args .hot .run) (p .result) (p .ensures) f) 1 (omega arith),
+    )
+
+axis-step-requires-3 : tie.Need-axis-step-requires-3
+axis-step-requires-3 c κs =
+    let q = c .before .before .before .before .before .before .before in
+    let p = c .before .before .pace in (
+      omega arith,
+      λ f. q .pre .axes (fires-moving (q .args .settings) (q .args .hot .run) (p .result) (p .ensures) f) 2 (omega arith),
+    )
+
+axis-step-requires-4 : tie.Need-axis-step-requires-4
+axis-step-requires-4 c κs =
+    let q = c .before .before .before .before .before .before .before .before in
+    let p = c .before .before .before .pace in (
+      omega arith,
+      λ f. q .pre .axes (fires-moving (q .args .settings) (q .args .hot .run) (p .result) (p .ensures) f) 3 (omega arith),
+    )
+
+axis-step-requires-5 : tie.Need-axis-step-requires-5
+axis-step-requires-5 c κs =
+    let q = c .before .before .before .before .before .before .before .before .before in
+    let p = c .before .before .before .before .pace in (
+      omega arith,
+      λ f. q .pre .axes (fires-moving (q .args .settings) (q .args .hot .run) (p .result) (p .ensures) f) 4 (omega arith),
+    )
+
+array-read-pulse : tie.Need-array-read-pulse
+array-read-pulse c = search needs
+
+pulse-requires : tie.Need-pulse-requires
+pulse-requires c κs = search needs
+
+array-read-pulse-2 : tie.Need-array-read-pulse-2
+array-read-pulse-2 c = search needs
+
+pulse-requires-2 : tie.Need-pulse-requires-2
+pulse-requires-2 c κs = search needs
+
+array-read-pulse-3 : tie.Need-array-read-pulse-3
+array-read-pulse-3 c = search needs
+
+pulse-requires-3 : tie.Need-pulse-requires-3
+pulse-requires-3 c κs = search needs
+
+array-read-pulse-4 : tie.Need-array-read-pulse-4
+array-read-pulse-4 c = search needs
+
+pulse-requires-4 : tie.Need-pulse-requires-4
+pulse-requires-4 c κs = search needs
+
+array-read-pulse-5 : tie.Need-array-read-pulse-5
+array-read-pulse-5 c = search needs
+
+pulse-requires-5 : tie.Need-pulse-requires-5
+pulse-requires-5 c κs = search needs
+
+word-requires : tie.Need-word-requires
+word-requires c κs =
+    let q = c .before .before .before .before .before .before .before .before in
+    q .before .before .before .before .before .before .before .before .pre .wires
+
+dwell-left-requires : tie.Need-dwell-left-requires
+dwell-left-requires c κs =
+    let q = c .before .before .before .before .before .before .before .before .before in
+    q .before .before .before .before .before .before .before .before .before .pre .dwell
+
+stepped-requires : tie.Need-stepped-requires
+stepped-requires c κs = search needs
 
 returns : tie.Need-returns
-returns c = on-true _ _ _ _ (c .before .if1 .taken) (c .quiet .ensures)
-
-stands-requires : tie.Need-stands-requires
-stands-requires c κs = search needs
-
-ended-requires : tie.Need-ended-requires
-ended-requires c κs = search needs
-
-quiet-requires-2 : tie.Need-quiet-requires-2
-quiet-requires-2 c κs = subst (λ (x : Hot). WiresFit (x .wires)) (sym (c .ended .ensures))
-    (c .before .before .before .before .before .before .pre .wires)
-
-returns-2 : tie.Need-returns-2
-returns-2 c =
-    on-false _ _ _ _ (c .before .before .before .before .if1 .left)
-    (on-true _ _ _ _ (sym (c .before .before .before .stands .ensures) ∙ c .before .before .if2 .taken)
-    (c .quiet2 .ensures ∙ ap quietOf (c .before .ended .ensures)))
-
-ramp-requires : tie.Need-ramp-requires
-ramp-requires c κs = c .before .before .before .before .before .pre .ramp
-    (not-false (c .before .before .before .before .before .args .hot .run .moving) (c .before .before .if1 .left))
-
-advanced-requires : tie.Need-advanced-requires
-advanced-requires c κs =
-    let q = c .before .before .before .before .before .before in
-    let e = (not-false (c .before .before .before .before .before .before .args .hot .run .moving)
-    (c .before .before .before .if1 .left)) in
-    (c .ramp .ensures .1, q .pre .ramp e .phase, q .pre .pulse e)
-
-returns-3 : tie.Need-returns-3
-returns-3 c =
-    let q = c .before .before .before .before .before .before .before .args in
-    on-false _ _ _ _ (c .before .before .before .before .if1 .left)
-    (on-false _ _ _ _ (sym (c .before .before .before .stands .ensures) ∙ c .before .before .if2 .left)
-    (c .advanced .ensures ∙ ap (λ (u : ℕ). advancedOf (q .hot) (q .settings .dwell) u) (c .before .ramp .ensures .0)))
+returns c =
+    let l = c .before .before in
+    let w = l .before .before in
+    let u5 = w .before in
+    let u4 = u5 .before in
+    let u3 = u4 .before in
+    let u2 = u3 .before in
+    let u1 = u2 .before in
+    let a5 = u1 .before .before in
+    let a4 = a5 .before in
+    let a3 = a4 .before in
+    let a2 = a3 .before in
+    let a1 = a2 .before in
+    let p = a1 .before in
+    let q = p .before .before .before .before .before in
+    ran-is (q .args .settings) (q .args .hot) (p .pace .result)
+    (a1 .axis-step .result) (a2 .axis-step2 .result) (a3 .axis-step3 .result) (a4 .axis-step4 .result)
+    (a5 .axis-step5 .result)
+    (l .dwell-left .result) (c .stepped .result) (w .word .result)
+    (u1 .pulse .result) (u2 .pulse2 .result) (u3 .pulse3 .result) (u4 .pulse4 .result) (u5 .pulse5 .result)
+    (p .pace .ensures)
+    (a1 .axis-step .ensures) (a2 .axis-step2 .ensures) (a3 .axis-step3 .ensures) (a4 .axis-step4 .ensures)
+    (a5 .axis-step5 .ensures)
+    (l .dwell-left .ensures) (c .stepped .ensures) (w .word .ensures)
+    (u1 .pulse .ensures) (u2 .pulse2 .ensures) (u3 .pulse3 .ensures) (u4 .pulse4 .ensures) (u5 .pulse5 .ensures)
+    ∙ one-way (q .args .settings) (q .args .hot) (q .pre .counted)
 
 pub runs-spec : {M : Type 1} → statement M
 runs-spec =
     tie.close
     (tie.spec
-    quiet-requires
-    returns
-    stands-requires
-    ended-requires
-    quiet-requires-2
-    returns-2
-    ramp-requires
-    advanced-requires
-    returns-3)
+    pace-requires
+    axis-step-requires
+    axis-step-requires-2
+    axis-step-requires-3
+    axis-step-requires-4
+    axis-step-requires-5
+    array-read-pulse
+    pulse-requires
+    array-read-pulse-2
+    pulse-requires-2
+    array-read-pulse-3
+    pulse-requires-3
+    array-read-pulse-4
+    pulse-requires-4
+    array-read-pulse-5
+    pulse-requires-5
+    word-requires
+    dwell-left-requires
+    stepped-requires
+    returns)

@@ -13,16 +13,16 @@ start-number-requires c κs = search needs
 begun-requires : tie.Need-begun-requires
 begun-requires c κs = search needs
 
+failed-requires : tie.Need-failed-requires
+failed-requires c κs = search needs
+
 returns : tie.Need-returns
 returns c =
     let q = c .before .before .before .args in
     let n = c .before .before .start-number in
     on-eq (n .result) 0 _ _ (record { hot = failedOf (q .hot) (n .result); number = n .result }) (c .before .if1 .taken)
-    (λ i. record { hot = c .begun .ensures i; number = 0 })
+    (λ i. record { hot = c .begun .ensures i; number = c .before .if1 .taken i })
     ∙ ap (λ (x : ℕ). dueBy (q .next) (q .settings .polarity) (q .switch) (q .hot) (q .master) x) (n .ensures)
-
-failed-requires : tie.Need-failed-requires
-failed-requires c κs = search needs
 
 returns-2 : tie.Need-returns-2
 returns-2 c =
@@ -35,4 +35,4 @@ returns-2 c =
 
 pub due-spec : {M : Type 1} → statement M
 due-spec =
-    tie.close (tie.spec start-number-requires begun-requires returns failed-requires returns-2)
+    tie.close (tie.spec start-number-requires begun-requires failed-requires returns returns-2)

@@ -5,6 +5,7 @@ use mathlib.Core.Path.{sym, _∙_}
 use borrow.Author.Tests.{ltb-true}
 use lib.Dec.{eqb, ltb}
 use Rattle.laws.proofs.Pick.{on-true, on-false}
+use Rattle.controller.specs.Inner.{withPause}
 use Rattle.controller.proofs.StepLaws.{and-second}
 use Rattle.controller.proofs.start.waits.Statement.{statement}
 use Rattle.controller.proofs.start.waits.Tie as tie
@@ -13,30 +14,37 @@ is-due-requires : tie.Need-is-due-requires
 is-due-requires c κs = search needs
 
 sub-due : tie.Need-sub-due
-sub-due c = let e = and-second (eqb (c .before .before .before .before .args .hot .pause .left) 1)
-    (ltb 0 (c .before .before .before .before .args .hot .pause .waiting))
-    (sym (c .before .before .is-due .ensures) ∙ c .before .if1 .taken) in omega
-    (arith, ltb-true 0 (c .before .before .before .before .args .hot .pause .waiting) e)
+sub-due c =
+    let p = c .before .before .before .before .args .hot .pause in
+    let e = and-second (eqb (p .left) 1) (ltb 0 (p .waiting))
+    (sym (c .before .before .is-due .ensures) ∙ c .before .if1 .taken) in
+    omega (arith, ltb-true 0 (p .waiting) e)
 
 due-requires : tie.Need-due-requires
 due-requires c κs =
-    let f = c .before .before .before .before .pre in
-    let e = and-second (eqb (c .before .before .before .before .args .hot .pause .left) 1)
-    (ltb 0 (c .before .before .before .before .args .hot .pause .waiting))
+    let q = c .before .before .before .before in
+    let p = q .args .hot .pause in
+    let e = and-second (eqb (p .left) 1) (ltb 0 (p .waiting))
     (sym (c .before .before .is-due .ensures) ∙ c .before .if1 .taken) in
-    (omega (arith, ltb-true 0 (c .before .before .before .before .args .hot .pause .waiting) e, f .waiting), f .start)
+    (omega (arith, ltb-true 0 (p .waiting) e, q .pre .waiting), q .pre .start)
+
+lessened-requires : tie.Need-lessened-requires
+lessened-requires c κs = search needs
 
 returns : tie.Need-returns
-returns c = on-true _ _ _ _ (sym (c .before .before .before .is-due .ensures) ∙ c .before .before .if1 .taken)
-    (c .due .ensures)
-
-counted-requires : tie.Need-counted-requires
-counted-requires c κs = search needs
+returns c =
+    on-true _ _ _ _ (sym (c .before .before .before .before .is-due .ensures) ∙ c .before .before .before .if1 .taken)
+    (c .before .due .ensures)
 
 returns-2 : tie.Need-returns-2
-returns-2 c = on-false _ _ _ _ (sym (c .before .before .is-due .ensures) ∙ c .before .if1 .left)
-    (λ i. record { hot = c .counted .ensures i; number = 0 })
+returns-2 c =
+    let h = c .before .before .before .before .args .hot in
+    on-false _ _ _ _ (sym (c .before .before .is-due .ensures) ∙ c .before .if1 .left)
+    (λ i. record {
+      hot = withPause h (record { left = c .lessened .ensures i; waiting = h .pause .waiting });
+      number = 0;
+    })
 
 pub waits-spec : {M : Type 1} → statement M
 waits-spec =
-    tie.close (tie.spec is-due-requires sub-due due-requires returns counted-requires returns-2)
+    tie.close (tie.spec is-due-requires sub-due due-requires lessened-requires returns returns-2)

@@ -1,0 +1,93 @@
+-- Where all limit inputs that low-ON has are high, and none that high-ON has is, no axis is blocked. Assumes nothing.
+use Prim.Native.Nat.{ℕ, zero, suc, _/_, _%_, _^_, _<_, min}
+use mathlib.Core.Bool.{Bool, true, false, not, cond, _&&_, _||_}
+use mathlib.Core.Path.{_≡_, refl, sym, ap, _∙_}
+use native.Mathlib.Omega.{arith}
+use borrow.Author.Tests.{eqb-true}
+use lib.Bits.{bitAnd, and-step, and-shr}
+use lib.Dec.{ltb, eqb}
+use Rattle.inputs.specs.Inputs.{blockedAt, someBlocked}
+use Rattle.inputs.proofs.Laws.{or-right, blocked-down}
+use Rattle.controller.specs.Inner.{isCalm}
+
+-- ---- One bit of two words
+
+lowest : (a b : ℕ) → bitAnd a b % 2 ≡ min (a % 2) (b % 2)
+lowest a b = let e = and-step a b in omega arith
+
+and-bit : (a b i : ℕ) → bitAnd a b / 2 ^ i % 2 ≡ min (a / 2 ^ i % 2) (b / 2 ^ i % 2)
+and-bit a b i = ap (λ (x : ℕ). x % 2) (and-shr a b i) ∙ lowest (a / 2 ^ i) (b / 2 ^ i)
+
+high-clear : (h n : ℕ) → h < 2 → n < 2 → min h n ≡ 0 → eqb h 1 && eqb n 1 ≡ false
+high-clear zero n p q e = refl
+high-clear (suc zero) zero p q e = refl
+high-clear (suc zero) (suc zero) p q e = absurd (omega arith)
+high-clear (suc zero) (suc (suc n)) p q e = absurd (omega arith)
+high-clear (suc (suc h)) n p q e = absurd (omega arith)
+
+low-clear : (l n : ℕ) → l < 2 → n < 2 → min l n ≡ l → eqb l 1 && not (eqb n 1) ≡ false
+low-clear zero n p q e = refl
+low-clear (suc zero) zero p q e = absurd (omega arith)
+low-clear (suc zero) (suc zero) p q e = refl
+low-clear (suc zero) (suc (suc n)) p q e = absurd (omega arith)
+low-clear (suc (suc l)) n p q e = absurd (omega arith)
+
+-- ---- One axis, and all five
+
+still : (t m a b c d : Bool) → a ≡ false → b ≡ false → c ≡ false → d ≡ false
+    → false ≡ t && cond m (a || d) (b || c)
+still true true a b c d p q r s = rw (p, s)
+still true false a b c d p q r s = rw (q, r)
+still false m a b c d p q r s = refl
+
+free : (low high inputs distance : ℕ) (minus : Bool)
+    → bitAnd high inputs % 4 ≡ 0 → bitAnd low inputs % 4 ≡ low % 4
+    → false ≡ blockedAt low high inputs distance minus 0
+free low high inputs distance minus p q =
+    still (ltb 0 distance) minus _ _ _ _
+    (low-clear (low / 1 % 2) (inputs / 1 % 2) (omega arith) (omega arith)
+    (sym (and-bit low inputs 0) ∙ first (bitAnd low inputs) low q))
+    (low-clear (low / 2 % 2) (inputs / 2 % 2) (omega arith) (omega arith)
+    (sym (and-bit low inputs 1) ∙ second (bitAnd low inputs) low q))
+    (high-clear (high / 1 % 2) (inputs / 1 % 2) (omega arith) (omega arith)
+    (sym (and-bit high inputs 0) ∙ first (bitAnd high inputs) 0 p))
+    (high-clear (high / 2 % 2) (inputs / 2 % 2) (omega arith) (omega arith)
+    (sym (and-bit high inputs 1) ∙ second (bitAnd high inputs) 0 p))
+  where
+    first : (x y : ℕ) → x % 4 ≡ y % 4 → x / 1 % 2 ≡ y / 1 % 2
+    first x y e = omega arith
+
+    second : (x y : ℕ) → x % 4 ≡ y % 4 → x / 2 % 2 ≡ y / 2 % 2
+    second x y e = omega arith
+
+and-both : (a b : Bool) → a && b ≡ true → (a ≡ true) × (b ≡ true)
+and-both true b e = (refl, e)
+and-both false b e = (e, absurd (let z : _≡_ {A = ℕ} 0 1 = ap (λ (x : Bool). cond x 1 0) e in omega arith))
+
+pub calm-free : (low high inputs : ℕ) (distance : ℕ → ℕ) (minus : ℕ → Bool) → isCalm low high inputs ≡ true
+    → false ≡ someBlocked low high inputs distance minus
+calm-free low high inputs distance minus e =
+    let t = and-both (eqb (bitAnd high inputs % 1024) 0) (eqb (bitAnd low inputs % 1024) (low % 1024)) e in
+    let p = eqb-true (bitAnd high inputs % 1024) 0 (t .0) in
+    let q = eqb-true (bitAnd low inputs % 1024) (low % 1024) (t .1) in
+    let h2 = and-shr high inputs 2 in
+    let h4 = and-shr high inputs 4 in
+    let h6 = and-shr high inputs 6 in
+    let h8 = and-shr high inputs 8 in
+    let l2 = and-shr low inputs 2 in
+    let l4 = and-shr low inputs 4 in
+    let l6 = and-shr low inputs 6 in
+    let l8 = and-shr low inputs 8 in
+    or-right _ _ false
+    (or-right _ _ false
+    (or-right _ _ false
+    (or-right _ _ false
+    (free low high inputs (distance 0) (minus 0) (omega (arith, p)) (omega (arith, q)))
+    (free (low / 4) (high / 4) (inputs / 4) (distance 1) (minus 1) (omega (arith, p, h2)) (omega (arith, q, l2))
+    ∙ blocked-down low high inputs (distance 1) (minus 1) 2))
+    (free (low / 16) (high / 16) (inputs / 16) (distance 2) (minus 2) (omega (arith, p, h4)) (omega (arith, q, l4))
+    ∙ blocked-down low high inputs (distance 2) (minus 2) 4))
+    (free (low / 64) (high / 64) (inputs / 64) (distance 3) (minus 3) (omega (arith, p, h6)) (omega (arith, q, l6))
+    ∙ blocked-down low high inputs (distance 3) (minus 3) 6))
+    (free (low / 256) (high / 256) (inputs / 256) (distance 4) (minus 4) (omega (arith, p, h8)) (omega (arith, q, l8))
+    ∙ blocked-down low high inputs (distance 4) (minus 4) 8)
