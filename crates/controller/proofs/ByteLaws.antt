@@ -1,15 +1,14 @@
 -- Lines: what they do to a held machine is the held machine's step, and so are their numbers and replies. Assumes
 -- nothing.
-use Prim.Native.Nat.{ℕ, _+_, _-_, _%_, _≤_, _<_}
-use mathlib.Core.Bool.{Bool, true, false, cond, not, _&&_, _||_}
-use mathlib.Core.List.{List, []}
-use mathlib.Core.Path.{_≡_, refl, sym, ap, subst, _∙_}
+use Prim.Native.Nat.{ℕ, _+_, _-_, _%_, _<_}
+use mathlib.Core.Bool.{Bool, true, false, cond, _&&_, _||_}
+use mathlib.Core.Path.{_≡_, refl, sym, ap, _∙_}
 use native.Mathlib.Omega.{arith}
 use native.Mathlib.Nat.{mod-eq-of-lt}
-use borrow.Author.Tests.{ltb-true, ltb-false, le-leb, lt-leb, le-ltb, lt-ltb}
-use lib.Dec.{ltb, leb, eqb}
+use borrow.Author.Tests.{ltb-true, ltb-false, le-leb, lt-leb}
+use lib.Dec.{ltb, eqb}
 use lib.IntN.{ℤ, pos, negsuc, _+ℤ_}
-use lib.ListN.{getD, set}
+use lib.ListN.{set}
 use Rattle.laws.specs.Axes.{each}
 use Rattle.laws.proofs.Five.{five}
 use Rattle.laws.proofs.Pick.{by-lt}
@@ -20,33 +19,19 @@ use Rattle.line.specs.Fits.{CommandFits}
 use Rattle.outputs.specs.Outputs.{restOf, fireOf}
 use Rattle.reply.specs.declared.Travel.{Travel}
 use Rattle.reply.specs.declared.Position.{Position}
-use Rattle.reply.specs.Reply.{Told, travelDigits, twenty, bias, replyOf, refusalOf, toldBy, axesFit}
+use Rattle.reply.specs.Reply.{travelDigits, twenty, bias, replyOf, toldBy, axesFit}
 use Rattle.reply.proofs.Replies.{reply-same}
-use Rattle.machine.specs.State.{Machine, Move, withFlags, withMove, withWatch, withPause, start}
+use Rattle.machine.specs.State.{Machine, withFlags, withMove, withWatch, withPause, start}
 use Rattle.machine.specs.Stops.{status, blocked, stopping, marks}
-use Rattle.machine.specs.Starts.{startNumber, begun, notes, outside}
+use Rattle.machine.specs.Starts.{begun, notes, outside}
 use Rattle.machine.specs.Commands.{number, does, drops, stores, turned}
 use Rattle.machine.specs.Replies as machine
 use Rattle.machine.specs.Replies.{toldOf}
 use Rattle.machine.proofs.FitLaws.{Fits}
-use Rattle.controller.specs.declared.Controller.{Controller}
-use Rattle.controller.specs.declared.hot.Hot.{Hot}
-use Rattle.controller.specs.declared.hot.Plan.{Plan}
-use Rattle.controller.specs.Held.{held, heldHot, heldCold, heldPlan, heldSettings}
+use Rattle.controller.specs.Held.{held, heldHot, heldPlan, heldSettings}
 use Rattle.controller.specs.Inner.{begunOf, startOf, blockedIn}
-use Rattle.controller.specs.Orders.{
-  numberOf,
-  doesOf,
-  turnedOf,
-  turnedBy,
-  zeroed,
-  withHot,
-  withNext,
-  orderedOf,
-  droppedOf,
-  storedOf,
-}
-use Rattle.controller.specs.Told.{currentOf, statusBy, statusOf, readingsOf}
+use Rattle.controller.specs.Orders.{numberOf, doesOf, turnedOf, turnedBy, withHot, withNext, orderedOf, droppedOf, storedOf}
+use Rattle.controller.specs.Told.{statusBy, statusOf, readingsOf}
 use Rattle.controller.proofs.TickLaws.{each-at}
 use Rattle.controller.proofs.StartLaws.{start-is, begun-is}
 

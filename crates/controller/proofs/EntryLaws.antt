@@ -1,12 +1,12 @@
 -- The public entries, joined from what their parts answer: the held machine's step. Assumes nothing.
 use Prim.Native.Nat.{ℕ, _≤_, _<_}
-use mathlib.Core.Bool.{Bool, true, false, cond, _||_}
+use mathlib.Core.Bool.{Bool, true, false, cond}
 use mathlib.Core.List.{List, []}
 use mathlib.Core.Path.{_≡_, refl, sym, ap, subst, _∙_}
 use native.Mathlib.Omega.{arith}
 use borrow.Author.Tests.{lt-ltb, le-ltb}
-use lib.Dec.{ltb, eqb}
-use lib.IntN.{ℤ, pos}
+use lib.Dec.{eqb}
+use lib.IntN.{pos}
 use lib.ListN.{length}
 use Rattle.laws.specs.Axes.{each}
 use Rattle.laws.proofs.Pick.{by-bool}
@@ -17,40 +17,16 @@ use Rattle.line.specs.declared.Command.{Command}
 use Rattle.line.specs.declared.Command.the-variants as C
 use Rattle.line.specs.declared.Judged.{Judged}
 use Rattle.line.specs.declared.Judged.the-variants.{Accepted, Refused}
-use Rattle.line.specs.Fits.{CommandFits, JudgedFits}
+use Rattle.line.specs.Fits.{JudgedFits}
 use Rattle.line.proofs.Fits.{judge-fits}
 use Rattle.outputs.specs.Outputs.{restOf, fireOf}
 use Rattle.reply.specs.Reply.{toldBy, replyOf}
-use Rattle.receiver.specs.declared.Receiver.{Receiver}
 use Rattle.receiver.specs.declared.Taken.{Taken}
 use Rattle.receiver.specs.declared.Heard.{Heard}
 use Rattle.receiver.specs.declared.Heard.the-variants.{Character, Line}
-use Rattle.receiver.specs.Receiver.{Receipt, receive, holding, heldTaken}
+use Rattle.receiver.specs.Receiver.{Receipt, receive, heldTaken}
 use Rattle.machine.specs.State.{Machine}
-use Rattle.machine.specs.Steps.{
-  Outcome,
-  untaken,
-  gathered,
-  refused,
-  accepted,
-  decided,
-  outcomeOf,
-  outcome,
-  answered,
-  heardBy,
-  byteStep,
-  bufferAfter,
-  badSwitch,
-  powerOn,
-  powerNumber,
-  tickStep,
-  refusedTick,
-  ticked,
-  tooLarge,
-  tries,
-  looks,
-  failure,
-}
+use Rattle.machine.specs.Steps.{Outcome, untaken, refused, accepted, decided, outcomeOf, outcome, answered, heardBy, byteStep, bufferAfter, powerOn, tickStep, refusedTick, ticked, tries, looks, failure}
 use Rattle.machine.specs.Steps as steps
 use Rattle.machine.specs.Stops.{takes, stops}
 use Rattle.machine.specs.Ramp.{runs}
@@ -77,7 +53,7 @@ use Rattle.controller.specs.Inner.{
   RunFits,
   WiresFit,
 }
-use Rattle.controller.specs.Orders.{numberOf, doesOf, zeroed}
+use Rattle.controller.specs.Orders.{zeroed}
 use Rattle.controller.specs.Told.{readingsOf, refusedOf, refusalTo, obeyedOf, replyTo, linedOf, lineReply}
 use Rattle.controller.specs.Power.{badOf, freshOf, lineWith}
 use Rattle.controller.proofs.TickLaws.{takes-is, wires-fit}

@@ -2,7 +2,7 @@
 -- Assumes nothing.
 use Prim.Native.Nat.{ℕ}
 use mathlib.Core.List.{List, [], _∷_}
-use mathlib.Core.Path.{_≡_, sym, ap, _∙_}
+use mathlib.Core.Path.{_≡_, sym, ap}
 use Rattle.machine.specs.Calls.{Call, byte, tick, state}
 use Rattle.machine.specs.Steps.{byteStep, tickStep}
 use Rattle.controller.specs.declared.Controller.{Controller}

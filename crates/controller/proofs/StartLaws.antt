@@ -7,7 +7,6 @@ use native.Mathlib.Omega.{arith}
 use native.Mathlib.Nat.{zero-mod}
 use borrow.Author.Tests.{eqb-true, lt-ltb}
 use lib.Dec.{ltb, eqb, lit<}
-use lib.IntN.{ℤ, pos, negsuc}
 use Rattle.laws.specs.Axes.{each, some}
 use Rattle.laws.proofs.Five.{five}
 use Rattle.outputs.specs.Outputs.{restOf, fireOf}

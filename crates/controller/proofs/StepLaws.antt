@@ -6,7 +6,7 @@ use native.Mathlib.Omega.{arith}
 use native.Mathlib.Nat.{mod-eq-of-lt, mod-eq-sub-mod}
 use borrow.Author.Tests.{le-leb, lt-leb, leb-true}
 use mathlib.Core.List.{[], _∷_}
-use lib.Dec.{ltb, leb, eqb}
+use lib.Dec.{ltb, eqb}
 use lib.IntN.{ℤ, pos}
 use lib.ListN.{getD}
 use mir.Syntax.{w8}
@@ -23,7 +23,6 @@ use Rattle.controller.specs.declared.motion.Ran.{Ran}
 use Rattle.controller.specs.declared.hot.Hot.{Hot}
 use Rattle.controller.specs.declared.hot.Run.{Run}
 use Rattle.controller.specs.declared.hot.Settings.{Settings}
-use Rattle.controller.specs.declared.watch.Met.{Met}
 use Rattle.controller.specs.Inner.{
   withRun,
   withPause,

@@ -1,7 +1,6 @@
 -- How the controller holds the values of the machine: the one definition that says so. Positions are held with 524,288
 -- added; beside each travel stands the remainder of m × d / M; M, m and the parts of the output words are kept ready.
 use Prim.Native.Nat.{ℕ, _+_, _*_, _%_}
-use mathlib.Core.List.{List}
 use lib.IntN.{ℤ}
 use lib.ListN.{length}
 use Rattle.laws.specs.Axes.{each}

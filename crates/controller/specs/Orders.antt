@@ -1,8 +1,7 @@
 -- What the private functions of the orders do, on the controller as it is held: a means of proof, as Inner.antt.
 use Prim.Native.Nat.{ℕ, _+_}
 use mathlib.Core.Bool.{Bool, true, false, cond, _&&_, _||_}
-use mathlib.Core.List.{List}
-use lib.Dec.{ltb, leb, eqb}
+use lib.Dec.{ltb, eqb}
 use lib.ListN.{set}
 use Rattle.laws.specs.Axes.{each}
 use Rattle.inputs.specs.Inputs.{activeAt}
@@ -10,13 +9,10 @@ use Rattle.outputs.specs.Outputs.{generalOf}
 use Rattle.line.specs.declared.Command.{Command}
 use Rattle.line.specs.declared.Command.the-variants as C
 use Rattle.controller.specs.declared.Controller.{Controller}
-use Rattle.controller.specs.declared.Cold.{Cold}
 use Rattle.controller.specs.declared.hot.Hot.{Hot}
 use Rattle.controller.specs.declared.hot.Settings.{Settings}
 use Rattle.controller.specs.declared.hot.Plan.{Plan}
-use Rattle.controller.specs.declared.hot.Run.{Run}
 use Rattle.controller.specs.declared.hot.Counters.{Counters}
-use Rattle.controller.specs.declared.hot.Pause.{Pause}
 use Rattle.controller.specs.declared.hot.Flags.{Flags}
 use Rattle.controller.specs.declared.hot.Wires.{Wires}
 use Rattle.controller.specs.Inner.{startOf, begunOf, cellsOf, withRun, withPause, withFlags}

@@ -7,15 +7,14 @@ use mathlib.Core.Path.{_≡_, refl, sym, ap, subst, _∙_}
 use native.Mathlib.Omega.{arith}
 use native.Mathlib.Nat.{lt-of-lt-of-le}
 use borrow.Author.Tests.{lt-ltb, le-ltb}
-use lib.Dec.{ltb}
 use lib.ListN.{length, getD}
 use lib.Seq.{ext-getD}
-use Rattle.laws.proofs.Pick.{by-lt, picks}
+use Rattle.laws.proofs.Pick.{by-lt}
 use Rattle.digits.specs.declared.Digit.{Digit}
 use Rattle.digits.specs.declared.Digit.the-variants.{Other, Capital, Small}
 use Rattle.digits.specs.declared.Number.{Number}
 use Rattle.digits.specs.declared.Number.the-variants.{NotDigits, Value}
-use Rattle.digits.specs.Digits.{digitOf, capitalOf, sixOf, joinDigit, joinOf, readOn, numberOf, Under}
+use Rattle.digits.specs.Digits.{digitOf, capitalOf, sixOf, joinDigit, joinOf, numberOf, Under}
 
 -- ---- values
 

@@ -1,7 +1,7 @@
 -- A definition picks by a test, `cond (ltb a b) x y`; the code took a branch and so knows the fact. These laws
 -- join the two, and `search picks` closes what a branch returns. Assumes nothing.
 use Prim.Native.Nat.{ℕ, _≤_, _<_}
-use mathlib.Core.Bool.{Bool, true, false, not, cond}
+use mathlib.Core.Bool.{Bool, true, false, cond}
 use mathlib.Core.Path.{_≡_, refl, sym, _∙_}
 use lib.Dec.{ltb, leb, eqb}
 use borrow.Author.Tests.{

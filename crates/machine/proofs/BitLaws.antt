@@ -1,13 +1,13 @@
 -- Status bit 1 is the move's own flag, and small laws of Booleans. Assumes nothing.
-use Prim.Native.Nat.{ℕ, _+_, _*_, _/_, _%_, _^_, _≤_, _<_}
-use mathlib.Core.Bool.{Bool, true, false, cond, not, _&&_, _||_}
+use Prim.Native.Nat.{ℕ, _+_, _*_, _/_, _%_, _≤_, _<_}
+use mathlib.Core.Bool.{Bool, true, false, _||_}
 use mathlib.Core.Path.{_≡_, refl}
 use native.Mathlib.Omega.{arith}
 use borrow.Author.Tests.{eq-eqb, ne-eqb}
-use lib.Dec.{eqb, ltb}
-use Rattle.machine.specs.State.{Move, Flags, Pause, Machine}
+use lib.Dec.{ltb}
+use Rattle.machine.specs.State.{Machine}
 use Rattle.laws.specs.Bits.{bit, weight}
-use Rattle.machine.specs.Stops.{blocked, current, status}
+use Rattle.machine.specs.Stops.{blocked, current}
 use Rattle.machine.specs.Demand.{moves}
 
 fourfold : (b : Bool) (n m : ℕ) → m ≡ 4 * n → weight b m ≡ 4 * weight b n

@@ -1,10 +1,10 @@
 -- What one call, a byte or a tick, does to the latest move, the next one and the positions. Assumes nothing.
-use Prim.Native.Nat.{ℕ, _+_, _-_, _*_, _/_, _≤_, _<_}
+use Prim.Native.Nat.{ℕ, _+_, _-_, _≤_, _<_}
 use mathlib.Core.Bool.{Bool, true, false, cond, not, _&&_, _||_}
-use mathlib.Core.List.{List, []}
+use mathlib.Core.List.{List}
 use mathlib.Core.Path.{_≡_, refl, sym, ap, subst, _∙_}
 use native.Mathlib.Omega.{arith}
-use borrow.Author.Tests.{eqb-true, eqb-false, ltb-true, ltb-false}
+use borrow.Author.Tests.{eqb-true, eqb-false, ltb-false}
 use lib.Dec.{ltb, leb, eqb}
 use lib.IntN.{ℤ, pos, _+ℤ_, +ℤ-idr, natAbs}
 use lib.ListN.{length}
@@ -33,39 +33,12 @@ use Rattle.machine.specs.State.{
   withPause,
   withFlags,
 }
-use Rattle.machine.specs.Shares.{whole, gone, share, pulse}
-use Rattle.machine.specs.Ramp.{Ran, runs}
+use Rattle.machine.specs.Shares.{whole}
+use Rattle.machine.specs.Ramp.{runs}
 use Rattle.machine.specs.Stops.{takes, cause, limitOrWatch, stops, stopping, marks, sensorActive, blocked}
 use Rattle.machine.specs.Starts.{startNumber, newMove, begun, notes, outside, final}
 use Rattle.machine.specs.Commands.{number, does, stores, setAxis, drops}
-use Rattle.machine.specs.Steps.{
-  Outcome,
-  untaken,
-  gathered,
-  refused,
-  accepted,
-  decided,
-  outcomeOf,
-  outcome,
-  answered,
-  byteStep,
-  heardBy,
-  Tried,
-  untried,
-  failed,
-  began,
-  tryStart,
-  tryWaiting,
-  tries,
-  counts,
-  waits,
-  looks,
-  ticked,
-  refusedTick,
-  failure,
-  tooLarge,
-  tickStep,
-}
+use Rattle.machine.specs.Steps.{Outcome, refused, accepted, decided, outcomeOf, outcome, answered, heardBy, Tried, untried, failed, began, tryStart, tryWaiting, tries, waits, looks, ticked, refusedTick, failure, tooLarge}
 use Rattle.machine.specs.Calls.{Call, byte, tick, after}
 use Rattle.machine.specs.Demand.{
   Role,
@@ -93,7 +66,7 @@ use Rattle.machine.specs.Demand.{
 }
 use Rattle.machine.proofs.BitLaws.{status-moving}
 use Rattle.machine.proofs.ShareLaws.{share-none}
-use Rattle.machine.proofs.RunLaws.{Good, Whole, Runs, runs-is, true-false, and-first, no-pulse}
+use Rattle.machine.proofs.RunLaws.{Good, Whole, Runs, runs-is, true-false, no-pulse}
 
 -- A call on m that is to the list the line L, the start S and the stop P (t: it is a tick), answers z and leaves a.
 pub record Called (m : Machine) (L : Role) (S : Tried) (P t : Bool) (z : ℕ → ℤ) (a : Machine) : Type 0 where

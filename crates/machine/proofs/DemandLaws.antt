@@ -1,52 +1,17 @@
 -- Demand 3, for every list of calls: what each call does (CallLaws), summed up over the list. Assumes nothing.
-use Prim.Native.Nat.{ℕ, _+_, _*_, _≤_, _<_}
+use Prim.Native.Nat.{ℕ, _+_, _<_}
 use mathlib.Core.Bool.{Bool, true, false, cond, not, _&&_, _||_}
 use mathlib.Core.List.{List, [], _∷_}
 use mathlib.Core.Path.{_≡_, refl, sym, ap, subst, _∙_}
 use native.Mathlib.Omega.{arith}
 use borrow.Author.Tests.{not-true}
-use lib.IntN.{ℤ, pos, _+ℤ_, natAbs}
-use Rattle.machine.specs.State.{Plan, Move, Machine}
+use lib.IntN.{ℤ, pos, _+ℤ_}
+use Rattle.machine.specs.State.{Machine}
 use Rattle.machine.specs.Shares as shares
 use Rattle.laws.specs.Axes.{directed}
 use Rattle.machine.specs.Steps.{Tried, untried, failed, began}
-use Rattle.machine.specs.Calls.{Call, byte, tick, after, state}
-use Rattle.machine.specs.Demand.{
-  Role,
-  lineOf,
-  takesEffect,
-  moves,
-  stopsIn,
-  resetBy,
-  distanceBy,
-  minusBy,
-  sent,
-  isTick,
-  begins,
-  atStart,
-  isPulse,
-  lastDistance,
-  lastMinus,
-  started,
-  distance,
-  minus,
-  master,
-  counted,
-  signed,
-  stopBegun,
-  goesOn,
-  ends,
-  latest,
-  travel,
-  position,
-  gone,
-  whole,
-  ShareLaw,
-  Answer,
-  Ended,
-  Holds,
-  Demand3,
-}
+use Rattle.machine.specs.Calls.{Call, after, state}
+use Rattle.machine.specs.Demand.{Role, lineOf, takesEffect, moves, stopsIn, resetBy, distanceBy, minusBy, sent, isTick, begins, atStart, isPulse, lastDistance, lastMinus, started, distance, minus, master, counted, signed, stopBegun, goesOn, ends, latest, travel, gone, whole, ShareLaw, Answer, Ended, Demand3}
 use Rattle.machine.proofs.BitLaws.{status-moving}
 use Rattle.machine.proofs.ShareLaws.{Share, share-none}
 use Rattle.machine.proofs.RunLaws.{Good, Whole, true-false, and-first}

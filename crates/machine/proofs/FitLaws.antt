@@ -1,13 +1,13 @@
 -- What every machine that calls make keeps: settings, distances, speed and phase in range, positions in range with
 -- room for
 -- what is left of a running move. Assumes nothing.
-use Prim.Native.Nat.{ℕ, _+_, _-_, _*_, _/_, _≤_, _<_, min, max}
-use mathlib.Core.Bool.{Bool, true, false, cond, not, _&&_, _||_}
-use mathlib.Core.List.{List, [], _∷_, _++_}
+use Prim.Native.Nat.{ℕ, _+_, _-_, _*_, _≤_, _<_}
+use mathlib.Core.Bool.{Bool, true, false, cond, not, _&&_}
+use mathlib.Core.List.{List, [], _∷_}
 use mathlib.Core.Path.{_≡_, refl, sym, ap, subst, _∙_}
 use native.Mathlib.Omega.{arith}
 use native.Mathlib.Nat.{div-le-of-le-mul, mul-le-mul-right, min-le-right, max-le}
-use borrow.Author.Tests.{eqb-true, eqb-false, ltb-true, ltb-false, leb-true, leb-false, not-true, not-false}
+use borrow.Author.Tests.{eqb-true, eqb-false, not-false}
 use lib.Dec.{ltb, leb, eqb}
 use lib.IntN.{ℤ, pos, _+ℤ_, +ℤ-idr}
 use lib.ListN.{length}
@@ -19,80 +19,21 @@ use Rattle.line.specs.declared.Command.the-variants as C
 use Rattle.line.specs.declared.Judged.{Judged}
 use Rattle.line.specs.declared.Judged.the-variants.{Accepted, Refused}
 use Rattle.line.specs.Line.{silentOf, identOf, judgeOf}
-use Rattle.line.specs.Fits.{CommandFits, AcceptedFits, JudgedFits}
+use Rattle.line.specs.Fits.{CommandFits, JudgedFits}
 use Rattle.line.proofs.Fits.{judge-fits}
-use Rattle.receiver.specs.declared.Heard.{Heard}
-use Rattle.receiver.specs.declared.Heard.the-variants.{Character, Line}
-use Rattle.receiver.specs.Receiver.{Receipt, heardLine, receive}
+use Rattle.receiver.specs.Receiver.{Receipt}
 use Rattle.reply.specs.Reply.{bias}
-use Rattle.machine.specs.State.{
-  Settings,
-  Plan,
-  Move,
-  Machine,
-  Waiting,
-  none,
-  start,
-  Pause,
-  withMove,
-  withSettings,
-  withNext,
-  withPosition,
-  withWatch,
-  withPause,
-  withFlags,
-}
+use Rattle.machine.specs.State.{Settings, Plan, Move, Machine, Waiting, none, start, Pause, withMove, withSettings, withWatch, withPause, withFlags}
 use Rattle.machine.specs.Shares.{whole, gone, share, pulse}
-use Rattle.machine.specs.Ramp.{
-  Ran,
-  full,
-  remaining,
-  braked,
-  towards,
-  ramped,
-  atSpeed,
-  atRest,
-  ended,
-  quiet,
-  stepped,
-  pulsed,
-  advanced,
-  runs,
-}
-use Rattle.machine.specs.Stops.{takes, cause, limitOrWatch, stops, stopping, marks, sensorActive}
-use Rattle.machine.specs.Starts.{startNumber, newMove, begun, notes, outside, final}
-use Rattle.machine.specs.Commands.{number, does, stores, setAxis, drops}
-use Rattle.machine.specs.Steps.{
-  powerOn,
-  Outcome,
-  untaken,
-  gathered,
-  refused,
-  accepted,
-  decided,
-  outcomeOf,
-  outcome,
-  answered,
-  heardBy,
-  Tried,
-  untried,
-  failed,
-  began,
-  tryStart,
-  tryWaiting,
-  tries,
-  waits,
-  looks,
-  ticked,
-  refusedTick,
-  failure,
-  tooLarge,
-  tickStep,
-}
+use Rattle.machine.specs.Ramp.{Ran, full, remaining, braked, towards, ramped, atRest, ended, stepped, pulsed, advanced, runs}
+use Rattle.machine.specs.Stops.{takes, cause, stops, stopping, marks}
+use Rattle.machine.specs.Starts.{startNumber, begun, notes, outside}
+use Rattle.machine.specs.Commands.{number, does, stores, drops}
+use Rattle.machine.specs.Steps.{powerOn, Outcome, refused, decided, outcomeOf, outcome, answered, heardBy, Tried, failed, began, tryStart, tryWaiting, tries, waits, looks, ticked, refusedTick, failure, tooLarge, tickStep}
 use Rattle.machine.specs.Calls.{Call, byte, tick, after, state}
-use Rattle.machine.proofs.ShareLaws.{Share, share-none, share-grows, share-once}
-use Rattle.machine.proofs.RunLaws.{Good, Runs, step-pulse, runs-step, runs-end, true-false}
-use Rattle.machine.proofs.PositionLaws.{Lies, Room, lies, leaves-is, room-of}
+use Rattle.machine.proofs.ShareLaws.{share-none, share-grows, share-once}
+use Rattle.machine.proofs.RunLaws.{Good, step-pulse, runs-step, runs-end, true-false}
+use Rattle.machine.proofs.PositionLaws.{Room, lies, leaves-is, room-of}
 use Rattle.machine.proofs.PositionLaws as places
 use Rattle.machine.proofs.CallLaws.{passed, Ready, ready, good-new}
 

@@ -1,6 +1,5 @@
 -- The table of paper 01, "Marked, and traps", by computation: each run once. Assumes nothing.
-use Prim.Native.Nat.{ℕ}
-use mathlib.Core.List.{List, [], _∷_}
+use mathlib.Core.List.{[], _∷_}
 use mathlib.Core.Path.{_≡_, refl, ap}
 use Rattle.digits.specs.Digits.{sixOf, numberOf}
 use Rattle.block.specs.Block.{blockOf}

@@ -1,6 +1,6 @@
 -- What a tick's ramp does to the latest move, for each of its ends: rest, the end of a stop, a turn with no pulse, a
 -- master pulse. Assumes nothing.
-use Prim.Native.Nat.{ℕ, _+_, _-_, _*_, _/_, _≤_, _<_}
+use Prim.Native.Nat.{ℕ, _+_, _-_, _≤_, _<_}
 use mathlib.Core.Bool.{Bool, true, false, cond, not, _&&_}
 use mathlib.Core.Path.{_≡_, refl, sym, ap, subst, _∙_}
 use native.Mathlib.Omega.{arith}
@@ -10,9 +10,9 @@ use lib.Dec.{ltb, leb, eqb}
 use lib.IntN.{ℤ, pos, _+ℤ_, +ℤ-idr, natAbs}
 use Rattle.laws.specs.Axes.{directed}
 use Rattle.laws.proofs.Pick.{by-bool}
-use Rattle.machine.specs.State.{Plan, Move, Machine, withMove}
+use Rattle.machine.specs.State.{Move, Machine, withMove}
 use Rattle.machine.specs.Shares.{whole, gone, share, pulse}
-use Rattle.machine.specs.Ramp.{Ran, quiet, ended, atSpeed, stepped, pulsed, advanced, ramped, runs, full}
+use Rattle.machine.specs.Ramp.{Ran, ended, atSpeed, stepped, pulsed, advanced, ramped, runs, full}
 use Rattle.machine.specs.Demand.{isPulse}
 use Rattle.machine.proofs.ShareLaws.{
   Share,

@@ -1,29 +1,11 @@
 -- What an accepted line does, and which numbers from 11 on turn a line away (paper 01, "Lines", "Turned away").
 use Prim.Native.Nat.{ℕ}
-use mathlib.Core.Bool.{Bool, true, false, cond, not, _&&_, _||_}
+use mathlib.Core.Bool.{Bool, true, false, cond, _&&_}
 use lib.Dec.{ltb, leb, eqb}
-use lib.IntN.{ℤ, pos}
+use lib.IntN.{pos}
 use Rattle.line.specs.declared.Command.{Command}
 use Rattle.line.specs.declared.Command.the-variants as C
-use Rattle.machine.specs.State.{
-  Settings,
-  Plan,
-  Move,
-  Waiting,
-  none,
-  start,
-  Pause,
-  Flags,
-  Machine,
-  withSettings,
-  withNext,
-  withMove,
-  withPosition,
-  withOutputs,
-  withWatch,
-  withFlags,
-  withPause,
-}
+use Rattle.machine.specs.State.{Settings, Plan, none, start, Machine, withSettings, withNext, withMove, withPosition, withOutputs, withWatch, withFlags, withPause}
 use Rattle.machine.specs.Stops.{emergencyActive, stopping, marks}
 use Rattle.machine.specs.Starts.{turnedBy, startNumber, begun, notes}
 

@@ -12,7 +12,7 @@ use lib.Dec.{eqb}
 use lib.IntN.{ℤ, pos, _+ℤ_, natAbs}
 use Rattle.line.specs.declared.Command.{Command}
 use Rattle.line.specs.declared.Command.the-variants as C
-use Rattle.machine.specs.State.{Move, Machine}
+use Rattle.machine.specs.State.{Machine}
 use Rattle.laws.specs.Axes.{directed}
 use Rattle.laws.specs.Bits.{bit, weight}
 use Rattle.machine.specs.Stops.{takes, cause, status}

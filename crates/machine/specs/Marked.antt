@@ -1,19 +1,19 @@
 -- Paper 01, "Marked, and traps": what is proved together as one table. Power-on is with switch 0; lines are written as
 -- texts and go in byte by byte; ticks have the input word 0.
 use Prim.Native.Nat.{ℕ, zero, suc}
-use Prim.Native.Char.{Char, code}
+use Prim.Native.Char.{code}
 use Prim.Native.String.{String, [] as []ᵀ, _∷_ as _∷ᵀ_}
 use mathlib.Core.Bool.{Bool, true, cond, not}
 use mathlib.Core.List.{List, [], _∷_}
 use mathlib.Core.Path.{_≡_}
 use lib.Dec.{eqb}
-use lib.IntN.{ℤ, negsuc, natAbs}
+use lib.IntN.{negsuc, natAbs}
 use lib.ListN.{getD, replicate}
 use Rattle.laws.specs.Axes.{some, each}
 use Rattle.line.specs.declared.Command.the-variants as C
-use Rattle.line.specs.declared.Judged.the-variants.{Accepted, Refused}
+use Rattle.line.specs.declared.Judged.the-variants.{Accepted}
 use Rattle.line.specs.Line.{judgeOf}
-use Rattle.machine.specs.State.{Settings, Plan, Machine}
+use Rattle.machine.specs.State.{Machine}
 use Rattle.machine.specs.Replies.{travelOf, positionOf}
 use Rattle.machine.specs.Steps.{powerOn, ByteAnswer, byteStep, TickAnswer, tickStep}
 

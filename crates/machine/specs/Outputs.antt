@@ -3,7 +3,7 @@ use Prim.Native.Nat.{ℕ}
 use mathlib.Core.Bool.{Bool}
 use lib.IntN.{ℤ}
 use Rattle.outputs.specs.Outputs.{wordOf}
-use Rattle.machine.specs.State.{Settings, Plan, Move, Machine}
+use Rattle.machine.specs.State.{Machine}
 
 -- The word of the first half (early) or the second, with the pulses p; the direction is the latest move's, plus
 -- before any.

@@ -1,9 +1,9 @@
 -- Paper 01, "Ramp": one tick of a move.
 use Prim.Native.Nat.{ℕ, _+_, _-_, _*_, min, max}
-use mathlib.Core.Bool.{Bool, true, false, cond, not, _&&_}
+use mathlib.Core.Bool.{false, cond, not, _&&_}
 use lib.Dec.{ltb, leb, eqb}
 use lib.IntN.{ℤ, pos, _+ℤ_}
-use Rattle.machine.specs.State.{Settings, Move, Pause, Machine, withMove, withPosition, withPause}
+use Rattle.machine.specs.State.{Settings, Move, Machine, withMove, withPosition, withPause}
 use Rattle.machine.specs.Shares.{whole, gone, share, pulse}
 
 -- The phase at which the master pulses.

@@ -6,7 +6,7 @@ use lib.IntN.{ℤ}
 use Rattle.digits.specs.declared.Ident.{Ident}
 use Rattle.line.specs.declared.Command.{Command}
 use Rattle.reply.specs.Reply.{Told, travelDigits, twenty, replyOf, refusalOf}
-use Rattle.machine.specs.State.{Plan, Move, Machine}
+use Rattle.machine.specs.State.{Machine}
 use Rattle.machine.specs.Stops.{status}
 
 -- The figures that the replies to Q 0-4 and q 0-4 are made from.

@@ -3,19 +3,7 @@ use Prim.Native.Nat.{ℕ}
 use mathlib.Core.Bool.{Bool, true, false, cond, _||_}
 use lib.Dec.{ltb, eqb}
 use lib.IntN.{ℤ, pos, negsuc, _+ℤ_}
-use Rattle.machine.specs.State.{
-  Plan,
-  Move,
-  Waiting,
-  none,
-  start,
-  Pause,
-  Flags,
-  Machine,
-  withMove,
-  withFlags,
-  withPause,
-}
+use Rattle.machine.specs.State.{Plan, Move, none, start, Machine, withMove, withFlags, withPause}
 use Rattle.laws.specs.Axes.{some, directed}
 use Rattle.machine.specs.Stops.{blocked, sensorActive}
 

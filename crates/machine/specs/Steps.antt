@@ -1,6 +1,6 @@
 -- One call on the machine: power-on, a received byte with its lent buffer, a tick with its input word.
 use Prim.Native.Nat.{ℕ, _-_}
-use mathlib.Core.Bool.{Bool, true, false, cond, _||_, _&&_}
+use mathlib.Core.Bool.{Bool, true, false, cond, _||_}
 use mathlib.Core.List.{List, []}
 use lib.Dec.{ltb, eqb}
 use lib.IntN.{ℤ, pos}
@@ -12,21 +12,8 @@ use Rattle.line.specs.declared.Judged.{Judged}
 use Rattle.line.specs.declared.Judged.the-variants.{Accepted, Refused}
 use Rattle.receiver.specs.declared.Heard.{Heard}
 use Rattle.receiver.specs.declared.Heard.the-variants.{Character, Line}
-use Rattle.receiver.specs.Receiver.{Receipt, receive}
-use Rattle.machine.specs.State.{
-  Settings,
-  Plan,
-  Move,
-  Waiting,
-  none,
-  start,
-  Pause,
-  Flags,
-  Machine,
-  withLine,
-  withWatch,
-  withPause,
-}
+use Rattle.receiver.specs.Receiver.{receive}
+use Rattle.machine.specs.State.{Plan, Waiting, none, start, Machine, withLine, withWatch, withPause}
 use Rattle.machine.specs.Ramp.{Ran, runs}
 use Rattle.machine.specs.Stops.{takes, stops}
 use Rattle.machine.specs.Starts.{startNumber, begun, notes}

@@ -1,5 +1,4 @@
 -- `pulse` meets its contract: each return, by the tests and the answers that led there. Assumes nothing.
-use Rattle.laws.proofs.Pick.{picks}
 use Rattle.controller.proofs.motion.pulse.Statement.{statement}
 use Rattle.controller.proofs.motion.pulse.Tie as tie
 

@@ -1,6 +1,6 @@
 -- `causes` meets its contract: each return, by the tests and the answers that led there. Assumes nothing.
 use borrow.Author.Needs.{needs}
-use mathlib.Core.Path.{refl, sym, ap, _∙_}
+use mathlib.Core.Path.{refl, _∙_}
 use Rattle.laws.proofs.Pick.{on-true, on-false}
 use Rattle.controller.specs.Inner.{causeOf}
 use Rattle.controller.proofs.watch.causes.Statement.{statement}

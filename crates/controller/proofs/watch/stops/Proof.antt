@@ -1,7 +1,6 @@
 -- `stops` meets its contract: each return, by the tests and the answers that led there. Assumes nothing.
 use borrow.Author.Needs.{needs}
-use mathlib.Core.Bool.{Bool, _||_}
-use mathlib.Core.Path.{refl, sym, ap, _∙_}
+use mathlib.Core.Path.{ap, _∙_}
 use Rattle.inputs.specs.Inputs.{activeAt}
 use Rattle.controller.specs.declared.watch.Met.{Met}
 use Rattle.controller.specs.Inner.{limitOf, metWith, metBy}
