@@ -1,0 +1,47 @@
+-- A received byte, on every machine so held: the reply has room in the buffer, and so fits 32 bits. Assumes nothing.
+use Prim.Native.Nat.{_≤_}
+use native.Mathlib.Omega.{arith}
+use borrow.Author.Needs.{needs}
+use lib.ListN.{length}
+use Rattle.machine.specs.Calls.{state}
+use Rattle.replay.proofs.PlayLaws.{reply-room, byte-is}
+use Rattle.replay.proofs.play.lend.Statement.{statement}
+use Rattle.replay.proofs.play.lend.Tie as tie
+
+byte-requires : tie.Need-byte-requires
+byte-requires c κs = search needs
+
+cast-mix : tie.Need-cast-mix
+cast-mix c =
+    let l = c .before .before .before .before .before .before in
+    let a = c .before .before .byte in
+    let r = l .pre .0 in
+    let n : a .result .length ≤ length (l .args .buf .now) =
+    reply-room (state (r .switch) (r .history)) (l .args .b) (l .args .buf .now) (a .result) (a .last .1 .0)
+    (a .ensures .0 (r .switch) (r .history) (r .made)) (a .ensures .1 (r .switch) (r .history) (r .made))
+    (a .kept .1 .0) in
+    record { fits = omega (arith, l .pre .1) }
+
+cast-mix-2 : tie.Need-cast-mix-2
+cast-mix-2 c = search needs
+
+mix-requires : tie.Need-mix-requires
+mix-requires c κs = search needs
+
+bytes-requires : tie.Need-bytes-requires
+bytes-requires c κs = search needs
+
+same-length : tie.Need-same-length
+same-length c = search needs
+
+returns : tie.Need-returns
+returns c =
+    let l = c .before .before .before .before .before .before .before .before .before .before .before in
+    let a = c .before .before .before .before .before .before .before .byte in
+    λ s h e. byte-is (state s h) (l .args .b) (l .args .buf .now) (l .args .was .digest) (a .result) (a .last .1 .0) _ _
+    (a .ensures .0 s h e) (a .ensures .1 s h e) (c .before .before .before .mix .ensures) (c .before .bytes .ensures)
+
+pub lend-spec : {M : Type 1} → statement M
+lend-spec =
+    tie.close
+    (tie.spec byte-requires cast-mix cast-mix-2 mix-requires bytes-requires same-length returns)

@@ -1,0 +1,25 @@
+-- A tick, on every machine so held. Assumes nothing.
+use borrow.Author.Needs.{needs}
+use Rattle.machine.specs.Calls.{state}
+use Rattle.replay.proofs.PlayLaws.{tick-is}
+use Rattle.replay.proofs.play.tick.Statement.{statement}
+use Rattle.replay.proofs.play.tick.Tie as tie
+
+tick-requires : tie.Need-tick-requires
+tick-requires c κs = search needs
+
+tick-code-requires : tie.Need-tick-code-requires
+tick-code-requires c κs = search needs
+
+mix-requires : tie.Need-mix-requires
+mix-requires c κs = search needs
+
+returns : tie.Need-returns
+returns c =
+    let l = c .before .before .before .before .before .before in
+    let a = c .before .before .before .before .tick in
+    λ s h e. tick-is (state s h) (l .args .word) (l .args .was .digest) (a .result) _ _ (a .ensures s h e)
+    (c .before .before .tick-code .ensures) (c .before .mix .ensures)
+
+pub tick-spec : {M : Type 1} → statement M
+tick-spec = tie.close (tie.spec tick-requires tick-code-requires mix-requires returns)

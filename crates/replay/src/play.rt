@@ -1,0 +1,85 @@
+// The three kinds of call, each on a controller that power-on and calls made, with the digest so far. Assumes nothing.
+ghost use Prim.Native.Nat.{_≤_};
+ghost use mathlib.Core.Path.{_≡_};
+ghost use lib.ListN.{length, replicate};
+ghost use Rattle.controller.specs.Reach.{Reachable, Made};
+ghost use Rattle.replay.specs.Replay.{seen, heldSeen, ticked, ticks, sent, read};
+use crate::digest;
+use controller::Controller;
+
+// The controller after some calls, and the digest of their answers.
+pub struct Played {
+    pub controller: Controller,
+    pub digest: u32,
+}
+
+// One tick.
+fn tick(was: Played, word: u32) -> Played
+    requires { ⌜ Reachable (was .controller) ⌝ }
+    ensures { λ r. ⌜ Made (was .controller) (λ m. r ≡ heldSeen (ticked word (seen m (was .digest)))) ⌝ }
+{
+    let before = was.controller;
+    let a = before.tick(word);
+    let pulses = a.pulses;
+    let code = digest::tick_code(pulses, a.number);
+    let digest = digest::mix(was.digest, a.first, a.second, code);
+    let controller = a.controller;
+    Played { controller, digest }
+}
+
+// So many ticks with one input word. No other function makes ticks: the controller's tick has one caller, and so the
+// compiler can make it a part of this loop.
+pub(crate) fn ticks(was: Played, word: u32, count: u32) -> Played
+    requires { ⌜ Reachable (was .controller) ⌝ }
+    ensures { λ r. ⌜ Made (was .controller) (λ m. r ≡ heldSeen (ticks count word (seen m (was .digest)))) ⌝ }
+{
+    let mut played = was;
+    let mut i = 0;
+    while i < count {
+        let next = tick(played, word);
+        played = next;
+        i += 1;
+    }
+    played
+}
+
+// A received byte with this buffer lent.
+fn lend(was: Played, buf: &mut [u8], b: u8) -> Played
+    requires { ⌜ Reachable (was .controller) ⌝ }
+    requires { ⌜ length (now buf) ≤ 255 ⌝ }
+    ensures { λ r. ⌜ Made (was .controller) (λ m. r ≡ heldSeen (sent b (now (buf .entry)) (seen m (was .digest)))) ⌝ }
+{
+    let before = was.controller;
+    let a = before.byte(buf, b);
+    let length = a.length;
+    let answered = digest::mix(was.digest, length as u32, a.number as u32, 0);
+    let digest = digest::bytes(answered, buf);
+    let controller = a.controller;
+    Played { controller, digest }
+}
+
+// A received byte with so many zeros lent.
+pub(crate) fn send(was: Played, b: u8, room: usize) -> Played
+    requires { ⌜ Reachable (was .controller) ⌝ }
+    requires { ⌜ room ≤ 255 ⌝ }
+    ensures { λ r. ⌜ Made (was .controller) (λ m. r ≡ heldSeen (sent b (replicate room 0) (seen m (was .digest)))) ⌝ }
+{
+    let mut buf = [0u8; 255];
+    lend(was, &mut buf[..room], b)
+}
+
+// The readings: travels, positions, status, speed and slope.
+pub(crate) fn read(was: Played) -> Played
+    requires { ⌜ Reachable (was .controller) ⌝ }
+    ensures { λ r. ⌜ Made (was .controller) (λ m. r ≡ heldSeen (read (seen m (was .digest)))) ⌝ }
+{
+    let controller = was.controller;
+    let travels = controller.travels();
+    let positions = controller.positions();
+    let shown = digest::axes(was.digest, travels, positions);
+    let status = controller.status();
+    let speed = controller.speed();
+    let slope = controller.slope();
+    let digest = digest::mix(shown, status as u32, speed, slope);
+    Played { controller, digest }
+}
