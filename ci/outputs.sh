@@ -1,12 +1,14 @@
 #!/usr/bin/env bash
 # Stored outputs against the reference program: ci/outputs.sh compares, ci/outputs.sh make writes them anew.
-# Each NAME.in has its NAME.out beside it; the bench program's own test is crates/bench/stdin and stdout.
+# Each NAME.in has its NAME.out beside it; a program's own test is crates/NAME/stdin and stdout.
 set -eu
 cd "$(dirname "$0")/.."
 cargo build --release --offline --quiet --manifest-path reference/Cargo.toml
-for input in docs/*.in sessions/*.in reference/data/*.in crates/bench/stdin; do
-    output="${input%.in}.out"
-    if [ "$input" = crates/bench/stdin ]; then output=crates/bench/stdout; fi
+for input in docs/*.in reference/data/*.in crates/*/stdin; do
+    case "$input" in
+        *.in) output="${input%.in}.out" ;;
+        *) output="${input%stdin}stdout" ;;
+    esac
     if [ "${1:-}" = make ]; then
         reference/target/release/bench_reference < "$input" > "$output"
     elif ! reference/target/release/bench_reference < "$input" | cmp -s - "$output"; then

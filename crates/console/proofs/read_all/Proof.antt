@@ -1,0 +1,46 @@
+-- Reads to the end. The invariant: calls made the session. The measure is the turns left. Assumes nothing.
+use native.Mathlib.Omega.{arith}
+use Rattle.session.specs.Session.{Running}
+use Rattle.console.proofs.read_all.Statement.{statement}
+use Rattle.console.proofs.read_all.Tie as tie
+
+abbrev Inv-loop : tie.InvT-loop
+Inv-loop session₀ turns₀ session turns = Running session
+
+abbrev μ-loop : tie.MeasureT-loop
+μ-loop session₀ turns₀ session turns = turns
+
+loop-holds : tie.Need-loop-holds Inv-loop μ-loop
+loop-holds c = c .pre
+
+read-once-requires : tie.Need-read-once-requires Inv-loop μ-loop
+read-once-requires c κs = c .before .loop .inv
+
+sub-turns : tie.Need-sub-turns Inv-loop μ-loop
+sub-turns c = omega arith
+
+returns : tie.Need-returns Inv-loop μ-loop
+returns c = c .before .before .before .read-once .ensures
+
+loop-less : tie.Need-loop-less Inv-loop μ-loop
+loop-less c = omega arith
+
+loop-again : tie.Need-loop-again Inv-loop μ-loop
+loop-again c = c .before .before .before .read-once .ensures
+
+returns-2 : tie.Need-returns-2 Inv-loop μ-loop
+returns-2 c = c .before .loop .inv
+
+pub read-all-spec : {M : Type 1} → statement M
+read-all-spec =
+    tie.close
+    (tie.spec
+    Inv-loop
+    μ-loop
+    loop-holds
+    read-once-requires
+    sub-turns
+    returns
+    loop-less
+    loop-again
+    returns-2)
