@@ -3,14 +3,16 @@
 use Prim.Native.Nat.{ℕ, zero, suc, _+_, _*_, _%_, _≤_}
 use native.Mathlib.Numerals.{add-one}
 use native.Mathlib.Omega.{arith}
+use mathlib.Core.Bool.{Bool, true, false}
 use mathlib.Core.List.{List, [], _∷_}
 use mathlib.Core.Path.{_≡_, refl, sym, ap, subst, _∙_}
 use borrow.Author.Tests.{eq-eqb, ne-eqb}
-use lib.Dec.{eqb}
+use lib.Dec.{eqb, ltb}
 use lib.ListN.{length, getD, take, drop, replicate, length-append, length-replicate}
 use Rattle.laws.specs.Axes.{each}
 use Rattle.laws.proofs.Pick.{by-bool}
-use Rattle.block.specs.Block.{over}
+use Rattle.block.specs.Block.{over, frontOf}
+use Rattle.block.proofs.Buffers.{front-over}
 use Rattle.reply.specs.declared.Travel.{Travel}
 use Rattle.reply.specs.declared.Position.{Position}
 use Rattle.machine.specs.State.{Machine}
@@ -60,25 +62,6 @@ tick-is m w h a n r e p q = λ i. record {
     code : n ≡ tickCode (tickStep m w .pulse) (tickStep m w .number)
     code = p ∙ ap (λ (x : TickAnswer). tickCode (atAxis (x .pulses)) (x .number)) e
 
-pub byte-is : (m : Machine) (b : ℕ) (d : List ℕ) (h : ℕ) (a : ByteAnswer) (x : List ℕ) (n r : ℕ)
-    → a ≡ heldByte (byteStep m b d) → x ≡ bufferAfter (byteStep m b d) d → n ≡ mixed h (a .length) (a .number) 0
-    → r ≡ mixedBytes n x
-    → _≡_ {A = Played} (record { controller = a .controller; digest = r }) (heldSeen (sent b d (seen m h)))
-byte-is m b d h a x n r e l p q = λ i. record {
-  controller = e i .controller;
-  digest = (q ∙ (λ j. mixedBytes ((p ∙ ap (λ (y : ByteAnswer). mixed h (y .length) (y .number) 0) e) j) (l j))) i;
-}
-
-pub read-is : (m : Machine) (c : Controller) (h : ℕ) (ts : List Travel) (ps : List Position) (n s v a r : ℕ)
-    → held m ≡ c → ts ≡ each (heldTravel m) → ps ≡ each (heldPosition m) → s ≡ status m → v ≡ m .settings .speed
-    → a ≡ m .settings .slope → n ≡ mixedAxes (travelAt ts) (placeAt ps) h 5 → r ≡ mixed n s v a
-    → _≡_ {A = Played} (record { controller = c; digest = r }) (heldSeen (read (seen m h)))
-unfolding mixedAxes
-read-is m c h ts ps n s v a r e t p es ev ea en er = λ i. record {
-  controller = sym e i;
-  digest = (er ∙ (λ j. mixed ((en ∙ λ k. mixedAxes (travelAt (t k)) (placeAt (p k)) h 5) j) (es j) (ev j) (ea j))) i;
-}
-
 -- A reply that leaves a buffer as long as it was is no longer than the buffer.
 pub reply-room : (m : Machine) (b : ℕ) (d : List ℕ) (a : ByteAnswer) (x : List ℕ) → a ≡ heldByte (byteStep m b d)
     → x ≡ bufferAfter (byteStep m b d) d → length x ≡ length d → a .length ≤ length d
@@ -92,6 +75,46 @@ reply-room m b d a x e l k =
       length-append reply (drop (length reply) d),
     )
 
+module _ (m : Machine) (b : ℕ) (d : List ℕ) (h : ℕ) (a : ByteAnswer) (x : List ℕ) (n r : ℕ)
+    (e : a ≡ heldByte (byteStep m b d)) (l : x ≡ bufferAfter (byteStep m b d) d)
+    (p : n ≡ mixed h (a .length) (a .number) 0) where
+  answered : n ≡ mixed h (length (byteStep m b d .reply)) (byteStep m b d .number) 0
+  answered = p ∙ ap (λ (y : ByteAnswer). mixed h (y .length) (y .number) 0) e
+
+  pub byte-whole : (whole : Bool) → whole ≡ true → r ≡ mixedBytes n x
+      → _≡_ {A = Played} (record { controller = a .controller; digest = r }) (heldSeen (sent b whole d (seen m h)))
+  byte-whole whole w q = rw w (λ i. record {
+    controller = e i .controller;
+    digest = (q ∙ (λ j. mixedBytes (answered j) (l j))) i;
+  })
+
+  -- The front part of the buffer is the reply.
+  pub byte-reply : (whole : Bool) (y : List ℕ) → whole ≡ false → length x ≡ length d → y ≡ frontOf x (a .length)
+      → r ≡ mixedBytes n y
+      → _≡_ {A = Played} (record { controller = a .controller; digest = r }) (heldSeen (sent b whole d (seen m h)))
+  byte-reply whole y w k f q = rw w (λ i. record {
+    controller = e i .controller;
+    digest = (q ∙ (λ j. mixedBytes (answered j) ((f ∙ front) j))) i;
+  })
+    where
+      room : a .length ≤ length d
+      room = reply-room m b d a x e l k
+
+      front : frontOf x (a .length) ≡ byteStep m b d .reply
+      front =
+          (λ i. frontOf (l i) (e i .length))
+          ∙ front-over (byteStep m b d .reply) d (subst (λ (y : ByteAnswer). y .length ≤ length d) e room)
+
+pub read-is : (m : Machine) (c : Controller) (h : ℕ) (ts : List Travel) (ps : List Position) (n s v a r : ℕ)
+    → held m ≡ c → ts ≡ each (heldTravel m) → ps ≡ each (heldPosition m) → s ≡ status m → v ≡ m .settings .speed
+    → a ≡ m .settings .slope → n ≡ mixedAxes (travelAt ts) (placeAt ps) h 5 → r ≡ mixed n s v a
+    → _≡_ {A = Played} (record { controller = c; digest = r }) (heldSeen (read (seen m h)))
+unfolding mixedAxes
+read-is m c h ts ps n s v a r e t p es ev ea en er = λ i. record {
+  controller = sym e i;
+  digest = (er ∙ (λ j. mixed ((en ∙ λ k. mixedAxes (travelAt (t k)) (placeAt (p k)) h 5) j) (es j) (ev j) (ea j))) i;
+}
+
 -- ---- A call by its kind
 
 module _ (kind value count : ℕ) (x : Seen) where
@@ -100,7 +123,7 @@ module _ (kind value count : ℕ) (x : Seen) where
   call-ticks e = rw (eq-eqb kind 0 e)
 
   pub call-byte : (kind ≡ 0 → ⊥) → kind ≡ 1
-      → sent (value % 256) (replicate (count % 256) 0) x ≡ called kind value count x
+      → sent (value % 256) (ltb count 256) (replicate (count % 256) 0) x ≡ called kind value count x
   unfolding called
   call-byte n e = rw (ne-eqb kind 0 n, eq-eqb kind 1 e)
 
@@ -128,9 +151,9 @@ unfolding ticks
 comes-ticks zero w x q = q
 comes-ticks (suc n) w x q = comes-tick w (ticks n w x) (comes-ticks n w x q)
 
-comes-byte : (b : ℕ) (d : List ℕ) (x : Seen) → Comes (x .machine) → Comes (sent b d x .machine)
+comes-byte : (b : ℕ) (whole : Bool) (d : List ℕ) (x : Seen) → Comes (x .machine) → Comes (sent b whole d x .machine)
 unfolding state
-comes-byte b d x q = record {
+comes-byte b whole d x q = record {
   switch = q .switch;
   history = byte b d ∷ q .history;
   is = ap (λ (m : Machine). byteStep m b d .machine) (q .is);
@@ -141,7 +164,7 @@ unfolding called
 comes-call kind value count x q =
     by-bool (λ (y : Seen). Comes (y .machine)) (eqb kind 0) _ _ (λ e. comes-ticks count value x q)
     (λ e. by-bool (λ (y : Seen). Comes (y .machine)) (eqb kind 1) _ _
-    (λ f. comes-byte (value % 256) (replicate (count % 256) 0) x q) (λ f. q))
+    (λ f. comes-byte (value % 256) (ltb count 256) (replicate (count % 256) 0) x q) (λ f. q))
 
 comes-after : (s : ℕ) (bs : List ℕ) (j : ℕ) → Comes (seenAfter s bs j .machine)
 unfolding seenAfter state

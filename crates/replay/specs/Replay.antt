@@ -1,8 +1,8 @@
 -- A list of calls, nine bytes each, played to the machine after power-on, and the digest of all its answers.
 use Prim.Native.Nat.{ℕ, zero, suc, _+_, _*_, _/_, _%_}
-use mathlib.Core.Bool.{cond}
+use mathlib.Core.Bool.{Bool, cond}
 use mathlib.Core.List.{List}
-use lib.Dec.{eqb}
+use lib.Dec.{eqb, ltb}
 use lib.ListN.{length, getD, replicate}
 use Rattle.reply.specs.Reply.{bias}
 use Rattle.machine.specs.State.{Machine}
@@ -39,13 +39,14 @@ ticks zero word x = x
 ticks (suc n) word x = ticked word (ticks n word x)
 
 -- A received byte, with d in the lent buffer: the length of the reply and the number, then each byte of the buffer as
--- the call left it.
-abbrev pub byteTold : steps.ByteAnswer → List ℕ → ℕ → Seen
-byteTold a d h =
-    seen (a .machine) (mixedBytes (mixed h (length (a .reply)) (a .number) 0) (bufferAfter a d))
+-- the call left it, or of the reply alone.
+abbrev pub byteTold : steps.ByteAnswer → Bool → List ℕ → ℕ → Seen
+byteTold a whole d h =
+    seen (a .machine)
+    (mixedBytes (mixed h (length (a .reply)) (a .number) 0) (cond whole (bufferAfter a d) (a .reply)))
 
-abbrev pub sent : ℕ → List ℕ → Seen → Seen
-sent b d x = byteTold (byteStep (x .machine) b d) d (x .digest)
+abbrev pub sent : ℕ → Bool → List ℕ → Seen → Seen
+sent b whole d x = byteTold (byteStep (x .machine) b d) whole d (x .digest)
 
 -- The readings: travel and position, with 524,288 added, of each axis; then status, speed and slope.
 abbrev pub readOf : Machine → ℕ → ℕ
@@ -56,11 +57,11 @@ abbrev pub read : Seen → Seen
 read x = seen (x .machine) (readOf (x .machine) (x .digest))
 
 -- A call by its kind: 0, `count` ticks with the input word `value`; 1, the received byte `value` modulo 256 with
--- `count` modulo 256 zeros lent; any other, the readings.
+-- `count` modulo 256 zeros lent, of which the reply alone counts from a `count` of 256 on; any other, the readings.
 unfoldable pub called : ℕ → ℕ → ℕ → Seen → Seen
 called kind value count x =
     cond (eqb kind 0) (ticks count value x)
-    (cond (eqb kind 1) (sent (value % 256) (replicate (count % 256) 0) x)
+    (cond (eqb kind 1) (sent (value % 256) (ltb count 256) (replicate (count % 256) 0) x)
     (read x))
 
 -- The number of the four bytes from i on, the low one first.

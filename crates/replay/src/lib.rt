@@ -62,7 +62,12 @@ fn call(was: Played, kind: u8, value: u32, count: u32) -> Played
         return play::ticks(was, value, count);
     }
     if kind == BYTE {
-        return play::send(was, (value % 256) as u8, (count % 256) as usize);
+        return play::send(
+            was,
+            (value % 256) as u8,
+            (count % 256) as usize,
+            count < 256,
+        );
     }
     play::read(was)
 }

@@ -43,29 +43,34 @@ pub(crate) fn ticks(was: Played, word: u32, count: u32) -> Played
     played
 }
 
-// A received byte with this buffer lent.
-fn lend(was: Played, buf: &mut [u8], b: u8) -> Played
+// A received byte with this buffer lent. Of the buffer all bytes count, or those of the reply alone.
+fn lend(was: Played, buf: &mut [u8], b: u8, whole: bool) -> Played
     requires { ⌜ Reachable (was .controller) ⌝ }
     requires { ⌜ length (now buf) ≤ 255 ⌝ }
-    ensures { λ r. ⌜ Made (was .controller) (λ m. r ≡ heldSeen (sent b (now (buf .entry)) (seen m (was .digest)))) ⌝ }
+    ensures { λ r. ⌜ Made (was .controller) (λ m. r ≡ heldSeen (sent b whole (now (buf .entry)) (seen m (was .digest)))) ⌝ }
 {
     let before = was.controller;
     let a = before.byte(buf, b);
     let length = a.length;
     let answered = digest::mix(was.digest, length as u32, a.number as u32, 0);
-    let digest = digest::bytes(answered, buf);
     let controller = a.controller;
+    if whole {
+        let digest = digest::bytes(answered, buf);
+        return Played { controller, digest };
+    }
+    let reply = block::front(buf, length);
+    let digest = digest::bytes(answered, reply);
     Played { controller, digest }
 }
 
 // A received byte with so many zeros lent.
-pub(crate) fn send(was: Played, b: u8, room: usize) -> Played
+pub(crate) fn send(was: Played, b: u8, room: usize, whole: bool) -> Played
     requires { ⌜ Reachable (was .controller) ⌝ }
     requires { ⌜ room ≤ 255 ⌝ }
-    ensures { λ r. ⌜ Made (was .controller) (λ m. r ≡ heldSeen (sent b (replicate room 0) (seen m (was .digest)))) ⌝ }
+    ensures { λ r. ⌜ Made (was .controller) (λ m. r ≡ heldSeen (sent b whole (replicate room 0) (seen m (was .digest)))) ⌝ }
 {
     let mut buf = [0u8; 255];
-    lend(was, &mut buf[..room], b)
+    lend(was, &mut buf[..room], b, whole)
 }
 
 // The readings: travels, positions, status, speed and slope.

@@ -1,10 +1,10 @@
 -- A received byte, on every machine so held: the reply has room in the buffer, and so fits 32 bits. Assumes nothing.
+use borrow.Author.Needs.{needs}
 use Prim.Native.Nat.{_≤_}
 use native.Mathlib.Omega.{arith}
-use borrow.Author.Needs.{needs}
 use lib.ListN.{length}
 use Rattle.machine.specs.Calls.{state}
-use Rattle.replay.proofs.PlayLaws.{reply-room, byte-is}
+use Rattle.replay.proofs.PlayLaws.{reply-room, byte-whole, byte-reply}
 use Rattle.replay.proofs.play.lend.Statement.{statement}
 use Rattle.replay.proofs.play.lend.Tie as tie
 
@@ -36,12 +36,43 @@ same-length c = search needs
 
 returns : tie.Need-returns
 returns c =
-    let l = c .before .before .before .before .before .before .before .before .before .before .before in
-    let a = c .before .before .before .before .before .before .before .byte in
-    λ s h e. byte-is (state s h) (l .args .b) (l .args .buf .now) (l .args .was .digest) (a .result) (a .last .1 .0) _ _
-    (a .ensures .0 s h e) (a .ensures .1 s h e) (c .before .before .before .mix .ensures) (c .before .bytes .ensures)
+    let n = c .before .before .before .before in
+    let a = n .before .before .before .before in
+    let l = a .before .before .before .before .args in
+    λ s h e. byte-whole (state s h) (l .b) (l .buf .now) (l .was .digest) (a .byte .result) (a .byte .last .1 .0) _ _
+    (a .byte .ensures .0 s h e) (a .byte .ensures .1 s h e) (n .mix .ensures) (l .whole) (c .before .before .if1 .taken)
+    (c .bytes .ensures)
+
+front-requires : tie.Need-front-requires
+front-requires c κs = search needs
+
+bytes-requires-2 : tie.Need-bytes-requires-2
+bytes-requires-2 c κs = search needs
+
+same-length-2 : tie.Need-same-length-2
+same-length-2 c = search needs
+
+returns-2 : tie.Need-returns-2
+returns-2 c =
+    let n = c .before .before .before .before .before in
+    let a = n .before .before .before .before in
+    let l = a .before .before .before .before .args in
+    λ s h e. byte-reply (state s h) (l .b) (l .buf .now) (l .was .digest) (a .byte .result) (a .byte .last .1 .0) _ _
+    (a .byte .ensures .0 s h e) (a .byte .ensures .1 s h e) (n .mix .ensures) (l .whole) _
+    (c .before .before .before .if1 .left) (a .byte .kept .1 .0) (c .before .front .ensures) (c .bytes2 .ensures)
 
 pub lend-spec : {M : Type 1} → statement M
 lend-spec =
     tie.close
-    (tie.spec byte-requires cast-mix cast-mix-2 mix-requires bytes-requires same-length returns)
+    (tie.spec
+    byte-requires
+    cast-mix
+    cast-mix-2
+    mix-requires
+    bytes-requires
+    same-length
+    returns
+    front-requires
+    bytes-requires-2
+    same-length-2
+    returns-2)

@@ -23,7 +23,7 @@ returns : tie.Need-returns
 returns c =
     let l = c .before .before .before in
     λ s h e. c .before .lend .ensures s h e
-    ∙ ap (λ d. heldSeen (sent (l .args .b) d (seen (state s h) (l .args .was .digest))))
+    ∙ ap (λ d. heldSeen (sent (l .args .b) (l .args .whole) d (seen (state s h) (l .args .was .digest))))
     (take-zeros (l .args .room) 255 (l .pre .1))
 
 pub send-spec : {M : Type 1} → statement M
