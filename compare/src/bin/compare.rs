@@ -1,0 +1,133 @@
+//! Random sessions and call lists through the proved controller and through the reference.
+
+use compare::coverage::{grouped, Coverage};
+use compare::list::{self, List};
+use compare::session::{self, Places, Session};
+use std::path::PathBuf;
+use std::process::exit;
+use std::sync::atomic::{AtomicBool, AtomicUsize, Ordering};
+use std::thread;
+
+const USAGE: &str = "usage: compare [--sessions N] [--ticks N] [SEED ...], from the root of the repository";
+
+/// What is asked for: sessions and ticks in all, shared out over the seeds.
+struct Wish {
+    sessions: u64,
+    ticks: u64,
+    seeds: Vec<u64>,
+}
+
+fn number(text: Option<String>) -> u64 {
+    text.and_then(|text| text.replace([',', '_'], "").parse().ok()).unwrap_or_else(|| {
+        eprintln!("{USAGE}");
+        exit(2)
+    })
+}
+
+fn wish() -> Wish {
+    let mut wish = Wish { sessions: 2_000, ticks: 100_000_000, seeds: Vec::new() };
+    let mut words = std::env::args().skip(1);
+    while let Some(word) = words.next() {
+        match word.as_str() {
+            "--sessions" => wish.sessions = number(words.next()),
+            "--ticks" => wish.ticks = number(words.next()),
+            _ => wish.seeds.push(number(Some(word))),
+        }
+    }
+    if wish.seeds.is_empty() {
+        wish.seeds = vec![1];
+    }
+    wish
+}
+
+fn sessions(wish: &Wish) -> Vec<Session> {
+    let seeds = wish.seeds.len() as u64;
+    (0..wish.sessions).map(|at| Session { seed: wish.seeds[(at % seeds) as usize], index: at / seeds }).collect()
+}
+
+/// Lists are planned until their ticks add up to the wish; the last one is cut to fit.
+fn lists(wish: &Wish) -> Vec<List> {
+    let seeds = wish.seeds.len() as u64;
+    let mut left = wish.ticks;
+    let mut lists = Vec::new();
+    while left > 0 {
+        let at = lists.len() as u64;
+        let mut list = list::plan(wish.seeds[(at % seeds) as usize], at / seeds);
+        list.ticks = left.min(list.ticks as u64) as u32;
+        left -= list.ticks as u64;
+        lists.push(list);
+    }
+    lists
+}
+
+/// What one worker met, and the first difference that it found.
+type Found = (Coverage, Option<(usize, String)>);
+
+/// Takes items in order until all are done or one differs.
+fn worker<T>(
+    items: &[T],
+    next: &AtomicUsize,
+    halt: &AtomicBool,
+    run: impl Fn(&T) -> Result<Coverage, String>,
+) -> Found {
+    let mut seen = Coverage::default();
+    while !halt.load(Ordering::SeqCst) {
+        let at = next.fetch_add(1, Ordering::SeqCst);
+        let Some(item) = items.get(at) else { break };
+        match run(item) {
+            Ok(more) => seen.add(&more),
+            Err(difference) => {
+                halt.store(true, Ordering::SeqCst);
+                return (seen, Some((at, difference)));
+            }
+        }
+    }
+    (seen, None)
+}
+
+/// Runs all items on every core; ends the program with the first difference, the same one in every run.
+fn run_all<T: Sync>(items: &[T], run: impl Fn(usize, &T) -> Result<Coverage, String> + Sync) -> Coverage {
+    let (next, halt) = (AtomicUsize::new(0), AtomicBool::new(false));
+    let cores = thread::available_parallelism().map_or(1, |cores| cores.get());
+    let found: Vec<Found> = thread::scope(|scope| {
+        let (next, halt, run) = (&next, &halt, &run);
+        let start = |core| scope.spawn(move || worker(items, next, halt, |item| run(core, item)));
+        let workers: Vec<_> = (0..cores).map(start).collect();
+        workers.into_iter().map(|worker| worker.join().expect("a worker ends")).collect()
+    });
+    let mut seen = Coverage::default();
+    found.iter().for_each(|(more, _)| seen.add(more));
+    if let Some((_, difference)) = found.into_iter().filter_map(|(_, difference)| difference).min() {
+        println!("{difference}");
+        exit(1);
+    }
+    seen
+}
+
+fn run_sessions(wish: &Wish, places: &Places) {
+    let run = |core, session: &Session| session::compare(places, *session, &format!("working-{core}.in"));
+    let seen = run_all(&sessions(wish), run);
+    print!("sessions through the two bench programs: {}\n{seen}  no difference\n", grouped(seen.items));
+}
+
+fn run_lists(wish: &Wish, places: &Places) {
+    let seen = run_all(&lists(wish), |_, list| list::compare(&places.folder, *list));
+    print!("call lists through library and reference: {}\n{seen}  no difference\n", grouped(seen.items));
+}
+
+fn main() {
+    let wish = wish();
+    let places = Places { program: PathBuf::from("target/bin/bench"), folder: PathBuf::from("target/compare") };
+    if !places.program.is_file() {
+        eprintln!("target/bin/bench is absent: run `rt check bench` first\n{USAGE}");
+        exit(2);
+    }
+    std::fs::create_dir_all(&places.folder).expect("target/compare can be made");
+    println!("seeds {:?}", wish.seeds);
+    if wish.sessions > 0 {
+        run_sessions(&wish, &places);
+    }
+    if wish.ticks > 0 {
+        run_lists(&wish, &places);
+    }
+}

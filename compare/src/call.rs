@@ -1,0 +1,68 @@
+//! The calls of a list as `temixohuel_replay` reads them, nine bytes each.
+
+use std::fmt;
+
+/// The bytes of one call.
+pub const CALL_BYTES: usize = 9;
+
+/// One call: `count` ticks with the input word `value`, a received byte with a lent buffer, or the readings.
+#[derive(Clone, Copy, Debug, PartialEq, Eq)]
+pub struct Call {
+    pub kind: u8,
+    pub value: u32,
+    pub count: u32,
+}
+
+/// The kind of `count` ticks.
+pub const TICKS: u8 = 0;
+
+/// The kind of a received byte.
+pub const BYTE: u8 = 1;
+
+impl Call {
+    /// `count` ticks with one input word, which may be over-large.
+    pub fn ticks(count: u32, word: u32) -> Call {
+        Call { kind: TICKS, value: word, count }
+    }
+
+    /// One received byte with a lent buffer of `lent` bytes.
+    pub fn byte(byte: u8, lent: usize) -> Call {
+        Call { kind: BYTE, value: byte as u32, count: lent as u32 }
+    }
+
+    /// The byte that a call of kind 1 receives; the digits above it are not read.
+    pub fn received(&self) -> u8 {
+        (self.value % 256) as u8
+    }
+
+    /// The length of the buffer that a call of kind 1 lends.
+    pub fn lent(&self) -> usize {
+        (self.count % 256) as usize
+    }
+
+    /// The call's nine bytes, low byte first.
+    pub fn bytes(&self) -> [u8; CALL_BYTES] {
+        let mut bytes = [self.kind; CALL_BYTES];
+        bytes[1..5].copy_from_slice(&self.value.to_le_bytes());
+        bytes[5..9].copy_from_slice(&self.count.to_le_bytes());
+        bytes
+    }
+
+    /// The call of nine bytes.
+    pub fn of_bytes(bytes: &[u8]) -> Call {
+        let number = |at: usize| u32::from_le_bytes([bytes[at], bytes[at + 1], bytes[at + 2], bytes[at + 3]]);
+        Call { kind: bytes[0], value: number(1), count: number(5) }
+    }
+}
+
+impl fmt::Display for Call {
+    fn fmt(&self, f: &mut fmt::Formatter) -> fmt::Result {
+        match self.kind {
+            TICKS => write!(f, "{} ticks with word {:06X}", self.count, self.value),
+            BYTE => {
+                write!(f, "byte {:02X} '{}', {} lent", self.received(), self.received().escape_ascii(), self.lent())
+            }
+            _ => write!(f, "readings"),
+        }
+    }
+}

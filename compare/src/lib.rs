@@ -1,0 +1,18 @@
+//! The proved controller against the reference by another hand: the same sessions and call lists, all answers compared.
+//!
+//! `session` runs text through the two bench programs, `list` runs calls through the two machines. An `operator` works
+//! at a `bench` to make them: it sets distances, starts, slows, stops and reads as a cellar master would.
+
+pub mod bench;
+pub mod call;
+pub mod coverage;
+pub mod digest;
+pub mod line;
+pub mod list;
+pub mod observed;
+pub mod operator;
+pub mod proved;
+pub mod random;
+pub mod replay;
+pub mod session;
+pub mod shrink;

@@ -1,0 +1,87 @@
+//! Distances and starts: most are right, some meet 14, 15 and 17.
+
+use super::{Operator, AXES};
+use crate::bench::Bench;
+use crate::line;
+use reference::command::LONGEST;
+
+impl Operator {
+    /// The master's distance: of the operator's usual size, or of any.
+    fn master_distance(&mut self) -> u32 {
+        match self.random.below(40) {
+            0 => LONGEST,
+            1..=3 => self.random.spread(LONGEST),
+            5 => 0,
+            _ => self.random.spread(self.usual_distance),
+        }
+    }
+
+    /// Another axis's distance: crooked, at rest, level with the master, just short of it; seldom longer.
+    fn other_distance(&mut self, master: u32) -> u32 {
+        match self.random.below(50) {
+            0 => (master + 1).min(LONGEST),
+            1..=9 => 0,
+            10..=15 => master,
+            16..=19 => master.saturating_sub(1),
+            20..=22 => 1.min(master),
+            _ => self.random.below(master + 1),
+        }
+    }
+
+    /// A direction that ends in range, where the operator minds it.
+    fn direction<B: Bench>(&mut self, bench: &B, axis: usize, distance: u32) -> bool {
+        let (position, distance) = (bench.machine().positions()[axis], distance as i32);
+        if self.random.chance(97) && position + distance > LONGEST as i32 {
+            return true;
+        }
+        if self.random.chance(97) && position - distance < -(LONGEST as i32) {
+            return false;
+        }
+        self.random.chance(50)
+    }
+
+    /// Sets five distances; seldom another axis than the longest is to be master.
+    pub(super) fn set_distances<B: Bench>(&mut self, bench: &mut B) {
+        self.master = self.random.below(AXES as u32) as usize;
+        let longest = self.master_distance();
+        for axis in 0..AXES {
+            let distance = if axis == self.master { longest } else { self.other_distance(longest) };
+            let minus = self.direction(bench, axis, distance);
+            self.order(bench, line::distance(axis, minus, distance));
+        }
+        if self.random.chance(3) {
+            self.master = self.random.below(AXES as u32) as usize;
+        }
+    }
+
+    /// How the next move is to be treated.
+    pub(super) fn make_up_mind(&mut self) {
+        self.leave_whole = self.random.chance(60);
+        self.patience = self.random.between(10, 60);
+    }
+
+    /// Sets a move and starts it under a calm word.
+    pub(super) fn start_move<B: Bench>(&mut self, bench: &mut B) {
+        self.set_distances(bench);
+        if self.random.chance(50) {
+            self.set_speed(bench);
+        }
+        if self.random.chance(50) {
+            self.set_slope(bench);
+        }
+        self.run_calm(bench, 1);
+        let (plain, master) = (self.random.chance(75), self.master);
+        self.order(bench, if plain { line::start(master) } else { line::start_after_dwell(master) });
+        self.make_up_mind();
+    }
+
+    /// A start towards a position out of range: an axis goes on for the longest distance.
+    pub(super) fn start_too_far<B: Bench>(&mut self, bench: &mut B) {
+        self.set_distances(bench);
+        let position = bench.machine().positions()[self.master];
+        self.order(bench, line::distance(self.master, position < 0, LONGEST));
+        self.run_calm(bench, 1);
+        self.order(bench, line::start(self.master));
+        self.make_up_mind();
+    }
+}

@@ -1,0 +1,68 @@
+//! What an operator does while a move runs, and how it stops one.
+
+use super::Operator;
+use crate::bench::Bench;
+use crate::line;
+use reference::command::FASTEST;
+
+impl Operator {
+    pub(super) fn under_way<B: Bench>(&mut self, bench: &mut B) {
+        self.patience = self.patience.saturating_sub(1);
+        match self.random.below(100) {
+            0..=5 => self.set_speed(bench),
+            6..=12 => self.read(bench),
+            13..=17 => {
+                let order = self.any_order();
+                self.order(bench, order);
+            }
+            18..=20 => self.mistake(bench),
+            21..=22 => {
+                self.order(bench, line::reset_positions());
+            }
+            23 => self.set_outputs(bench),
+            24..=28 => bench.oddity(&mut self.random),
+            29..=31 => self.watch_under_way(bench),
+            32..=43 if !self.leave_whole => self.stop(bench),
+            _ => {}
+        }
+        if self.patience == 0 {
+            self.lose_patience(bench);
+        }
+        let count = self.random.spread(self.usual_run);
+        self.run_calm(bench, count);
+    }
+
+    /// A stop by order, by an input, or by a setting that makes an input act.
+    fn stop<B: Bench>(&mut self, bench: &mut B) {
+        match self.random.below(10) {
+            0..=2 => {
+                self.order(bench, line::stop());
+            }
+            3..=4 => self.set_inputs(bench),
+            _ => {
+                let inputs = self.some_inputs();
+                let word = self.alarm_word(inputs);
+                let count = self.random.spread(200);
+                bench.run(count, word);
+            }
+        }
+    }
+
+    /// A slow move meets a full watch.
+    fn watch_under_way<B: Bench>(&mut self, bench: &mut B) {
+        if self.watch & 1 == 0 || !self.time_for_silence(bench) {
+            return;
+        }
+        let setting = self.random.spread(60);
+        self.order(bench, line::speed(setting));
+        self.silence(bench);
+    }
+
+    /// A move that takes too long is hurried or stopped.
+    fn lose_patience<B: Bench>(&mut self, bench: &mut B) {
+        let order = if self.random.chance(50) { line::stop() } else { line::speed(FASTEST) };
+        self.order(bench, order);
+        self.patience = 20;
+        self.leave_whole = false;
+    }
+}
