@@ -156,12 +156,12 @@ impl Called {
         self.observed.count_call();
     }
 
-    /// One byte with one lent buffer; its number.
+    /// One byte with one lent buffer; its number. At times the reply alone counts, and digits above the byte stand.
     fn give(&mut self, random: &mut Random, byte: u8, lent: usize) -> u8 {
-        let mut call = Call::byte(byte, lent);
+        let mut call = if random.chance(10) { Call::byte_for_reply(byte, lent) } else { Call::byte(byte, lent) };
         if random.chance(3) {
             call.value += 256 * random.below(1 << 24);
-            call.count += 256 * random.below(1 << 24);
+            call.count += 256 * random.below((1 << 24) - 1);
         }
         self.keep(call);
         let mut buffer = [0; LONGEST_LENT];

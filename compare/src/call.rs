@@ -19,15 +19,23 @@ pub const TICKS: u8 = 0;
 /// The kind of a received byte.
 pub const BYTE: u8 = 1;
 
+/// From this count on the reply alone counts of a lent buffer.
+const REPLY_ALONE: u32 = 256;
+
 impl Call {
     /// `count` ticks with one input word, which may be over-large.
     pub fn ticks(count: u32, word: u32) -> Call {
         Call { kind: TICKS, value: word, count }
     }
 
-    /// One received byte with a lent buffer of `lent` bytes.
+    /// One received byte with a lent buffer of `lent` bytes, all of which count afterwards.
     pub fn byte(byte: u8, lent: usize) -> Call {
         Call { kind: BYTE, value: byte as u32, count: lent as u32 }
+    }
+
+    /// The same, of whose buffer the reply alone counts.
+    pub fn byte_for_reply(byte: u8, lent: usize) -> Call {
+        Call { count: REPLY_ALONE + lent as u32, ..Call::byte(byte, lent) }
     }
 
     /// The byte that a call of kind 1 receives; the digits above it are not read.
@@ -38,6 +46,15 @@ impl Call {
     /// The length of the buffer that a call of kind 1 lends.
     pub fn lent(&self) -> usize {
         (self.count % 256) as usize
+    }
+
+    /// How many bytes of that buffer count afterwards, after a reply of `reply` bytes.
+    pub fn counted(&self, reply: usize) -> usize {
+        if self.count < REPLY_ALONE {
+            self.lent()
+        } else {
+            reply
+        }
     }
 
     /// The call's nine bytes, low byte first.

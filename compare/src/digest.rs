@@ -36,10 +36,10 @@ pub fn of_tick(answer: &TickAnswer) -> Triple {
     [answer.words[0], answer.words[1], code]
 }
 
-/// The digest after a received byte: the length of the reply, the number, and the whole lent buffer.
-pub fn after_byte(digest: u32, answer: ByteAnswer, lent: &[u8]) -> u32 {
+/// The digest after a received byte: the length of the reply, the number, and what counts of the lent buffer.
+pub fn after_byte(digest: u32, answer: ByteAnswer, counted: &[u8]) -> u32 {
     let mut digest = mix(digest, [answer.len as u32, answer.number as u32, 0]);
-    for &byte in lent {
+    for &byte in counted {
         digest = mix(digest, [byte as u32, 0, 0]);
     }
     digest

@@ -77,7 +77,7 @@ fn byte_answer(machine: &mut Machine, call: Call) -> Answer {
     let mut lent = vec![0; call.lent()];
     let answer = machine.byte(call.received(), &mut lent);
     let mut triples = vec![[answer.len as u32, answer.number as u32, 0]];
-    triples.extend(lent.iter().map(|&byte| [byte as u32, 0, 0]));
+    triples.extend(lent[..call.counted(answer.len)].iter().map(|&byte| [byte as u32, 0, 0]));
     let reply = reference::front(&lent, answer.len).escape_ascii();
     (format!("length {}, number {}, reply '{reply}'", answer.len, answer.number), triples)
 }

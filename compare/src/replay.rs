@@ -21,10 +21,10 @@ impl Replay {
     }
 
     /// One received byte with the front part of a fresh array of zeros.
-    fn byte(&mut self, byte: u8, lent: usize) {
+    fn byte(&mut self, call: Call) {
         let mut buffer = [0; LONGEST_LENT];
-        let answer = self.machine.byte(byte, &mut buffer[..lent]);
-        self.digest = digest::after_byte(self.digest, answer, &buffer[..lent]);
+        let answer = self.machine.byte(call.received(), &mut buffer[..call.lent()]);
+        self.digest = digest::after_byte(self.digest, answer, &buffer[..call.counted(answer.len)]);
     }
 
     fn ticks(&mut self, count: u32, word: u32) {
@@ -44,7 +44,7 @@ impl Replay {
     pub fn call(&mut self, call: Call) {
         match call.kind {
             TICKS => self.ticks(call.count, call.value),
-            BYTE => self.byte(call.received(), call.lent()),
+            BYTE => self.byte(call),
             _ => self.readings(),
         }
     }
