@@ -31,9 +31,8 @@ const TIMED_LINES: usize = 2_000;
 /// Each time is the least of so many runs.
 const RUNS: usize = 200;
 
-/// The length of the lent buffers, and the longest that is turned away.
+/// The length of the lent buffers.
 const LENT: usize = 120;
-const SHORT: usize = 119;
 
 /// The load of the floor: five crooked distances, limits that act while high, general outputs.
 const SETTINGS: [&str; 9] =
@@ -44,7 +43,6 @@ struct Row {
     name: String,
     ticks: [f64; 3],
     lines: [f64; 2],
-    less: Option<[f64; 2]>,
 }
 
 type Replayed = fn(u8, &[u8]) -> u32;
@@ -56,9 +54,10 @@ fn cpu_seconds() -> f64 {
     time.seconds as f64 + time.nanoseconds as f64 * 1e-9
 }
 
-fn send(calls: &mut Vec<u8>, line: &str, lent: usize) {
+/// The reply alone counts, or a line would be little more than the digest of its buffers.
+fn send(calls: &mut Vec<u8>, line: &str) {
     for byte in line.bytes().chain([b'\r']) {
-        calls.extend_from_slice(&Call::byte(byte, lent).bytes());
+        calls.extend_from_slice(&Call::byte_for_reply(byte, LENT).bytes());
     }
 }
 
@@ -66,15 +65,15 @@ fn send(calls: &mut Vec<u8>, line: &str, lent: usize) {
 fn ticks_after(lines: &[&str], count: u32) -> Vec<u8> {
     let mut calls = Vec::new();
     for line in SETTINGS.iter().chain(lines) {
-        send(&mut calls, line, LENT);
+        send(&mut calls, line);
     }
     calls.extend_from_slice(&Call::ticks(count, 0).bytes());
     calls
 }
 
-fn lines_of(line: &str, count: usize, lent: usize) -> Vec<u8> {
+fn lines_of(line: &str, count: usize) -> Vec<u8> {
     let mut calls = Vec::new();
-    (0..count).for_each(|_| send(&mut calls, line, lent));
+    (0..count).for_each(|_| send(&mut calls, line));
     calls
 }
 
@@ -101,18 +100,16 @@ fn least_seconds(cases: &[Case]) -> Vec<f64> {
     least
 }
 
-/// A long list and a short one for each figure: three of ticks, two of lines, two of the same bytes turned away.
+/// A long list and a short one for each figure: three of ticks, two of lines.
 fn cases_of(replay: Replayed) -> Vec<Case> {
     let mut lists = Vec::new();
     for lines in [["P08F4240", "Q080"].as_slice(), &["P0802710", "Q080"], &["P08F4240", "Q080", "Q09"]] {
         lists.push(ticks_after(lines, WARM_TICKS + TIMED_TICKS));
         lists.push(ticks_after(lines, WARM_TICKS));
     }
-    for lent in [LENT, SHORT] {
-        for line in ["Q06", "P0281388"] {
-            lists.push(lines_of(line, WARM_LINES + TIMED_LINES, lent));
-            lists.push(lines_of(line, WARM_LINES, lent));
-        }
+    for line in ["Q06", "P0281388"] {
+        lists.push(lines_of(line, WARM_LINES + TIMED_LINES));
+        lists.push(lines_of(line, WARM_LINES));
     }
     lists.into_iter().map(|calls| Case { replay, calls }).collect()
 }
@@ -122,9 +119,7 @@ fn row(name: &str, least: &[f64]) -> Row {
     let step = |figure: usize, steps: f64| (least[2 * figure] - least[2 * figure + 1]) / steps * 1e9;
     let ticks = [0, 1, 2].map(|figure| step(figure, TIMED_TICKS as f64));
     let lines = [3, 4].map(|figure| step(figure, TIMED_LINES as f64));
-    let turned_away = [5, 6].map(|figure| step(figure, TIMED_LINES as f64) * LENT as f64 / SHORT as f64);
-    let less = Some([lines[0] - turned_away[0], lines[1] - turned_away[1]]);
-    Row { name: name.into(), ticks, lines, less }
+    Row { name: name.into(), ticks, lines }
 }
 
 /// Both machines, all cases in turn.
@@ -169,7 +164,7 @@ fn floor_row(name: &str, ticks: &str, lines: &str, column: usize) -> Option<Row>
     let slow = cell(ticks, "a pulse in 100 (2.5 kHz)", column)?;
     let rest = cell(ticks, "idle", column)?;
     let lines = [cell(lines, "Q06 ", 0)?, cell(lines, "P0281388 ", 0)?];
-    Some(Row { name: name.into(), ticks: [fast, slow, rest], lines, less: None })
+    Some(Row { name: name.into(), ticks: [fast, slow, rest], lines })
 }
 
 fn floor_rows() -> Option<Vec<Row>> {
@@ -182,19 +177,16 @@ fn floor_rows() -> Option<Vec<Row>> {
 
 fn print_row(row: &Row) {
     let [fast, slow, rest] = row.ticks;
-    let less = row.less.map_or([String::from("-"), String::from("-")], |less| less.map(|ns| format!("{ns:.0}")));
-    let lines = row.lines.map(|ns| format!("{ns:.0}"));
-    print!("{:<28} {fast:>9.1} {slow:>9.1} {rest:>9.1}", row.name);
-    println!(" {:>9} {:>9} {:>10} {:>10}", lines[0], lines[1], less[0], less[1]);
+    let [reading, setting] = row.lines;
+    println!("{:<20} {fast:>9.1} {slow:>9.1} {rest:>9.1} {reading:>9.0} {setting:>9.0}", row.name);
 }
 
 fn main() {
     fs::create_dir_all("target/compare").expect("target/compare can be made");
     let rows = rows();
     let floor = floor_rows();
-    println!("{:<28} {:^29} {:^41}", "", "ns per tick", "ns per line");
-    print!("{:<28} {:>9} {:>9} {:>9}", "", "250 kHz", "2.5 kHz", "at rest");
-    println!(" {:>9} {:>9} {:>10} {:>10}", "Q06", "P0281388", "Q06*", "P0281388*");
+    println!("{:<20} {:^29} {:^19}", "", "ns per tick", "ns per line");
+    println!("{:<20} {:>9} {:>9} {:>9} {:>9} {:>9}", "", "250 kHz", "2.5 kHz", "at rest", "Q06", "P0281388");
     rows.iter().chain(floor.iter().flatten()).for_each(print_row);
     println!("{}", notes());
     if floor.is_none() {
@@ -209,9 +201,8 @@ Load: distances 524287, 393215, 262143, 131071, 77777, odd axes minus; slope FFF
 low-ON 0, general outputs ABC000, input word 0, switch 0; at rest after a stopped move.
 Library and reference replay one list of calls. A tick is the least of {RUNS} runs with {} ticks less the least with
 {WARM_TICKS}, over {TIMED_TICKS}; a line the same with {} and {WARM_LINES} lines. CPU time of the thread.
-The digest of all answers is included: words, pulses and number of each tick; length, number and the {LENT} bytes lent
-of each received byte, which are also cleared before. Columns with * are the line less the same bytes turned away for
-{SHORT} bytes lent, so nearly without digest and clearing.
+The digest of all answers is included: words, pulses and number of each tick; length, number and reply of each
+received byte, whose {LENT} bytes lent are cleared before.
 The floor has no digest, and its lines are judged without a controller.",
         WARM_TICKS + TIMED_TICKS,
         WARM_LINES + TIMED_LINES,
