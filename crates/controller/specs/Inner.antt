@@ -449,12 +449,12 @@ dueOf s next switch h master = dueBy next (s .polarity) switch h master (startOf
 abbrev pub countedOf : Hot → Hot
 countedOf h = withPause h (record { left = h .pause .left - 1; waiting = h .pause .waiting })
 
-abbrev pub isDue : Pause → Bool
-isDue p = eqb (p .left) 1 && ltb 0 (p .waiting)
+abbrev pub isDue : ℕ → ℕ → Bool
+isDue left waiting = eqb left 1 && ltb 0 waiting
 
 abbrev pub waitsOf : Settings → Plan → ℕ → Hot → Waited
 waitsOf s next switch h =
-    cond (isDue (h .pause)) (dueOf s next switch h (h .pause .waiting - 1))
+    cond (isDue (h .pause .left) (h .pause .waiting)) (dueOf s next switch h (h .pause .waiting - 1))
     (record { hot = countedOf h; number = 0 })
 
 pub record WaitFits (next : Plan) (h : Hot) : Type 0 where

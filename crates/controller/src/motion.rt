@@ -26,7 +26,6 @@ ghost use Rattle.controller.specs.Inner.{
 };
 use crate::hot::Counters;
 use crate::hot::Hot;
-use crate::hot::Pause;
 use crate::hot::Plan;
 use crate::hot::Run;
 use crate::hot::Settings;
@@ -345,15 +344,10 @@ fn stepped(hot: Hot, run: Run, left: u32, a: Axis, b: Axis, c: Axis, d: Axis, e:
         ],
         positions: [pa, pb, pc, pd, pe],
     };
-    let was = hot.pause;
-    let pause = Pause {
-        left,
-        waiting: was.waiting,
-    };
     let mut next = hot;
     next.counters = counters;
     next.run = run;
-    next.pause = pause;
+    next.pause.left = left;
     next
 }
 
@@ -390,8 +384,7 @@ pub(crate) fn runs(settings: Settings, hot: Hot) -> Ran
         pulse(e.on, minus[4]),
     ];
     let first = word(wires, a.on, b.on, c.on, d.on, e.on);
-    let pause = hot.pause;
-    let left = dwell_left(paced.ends, settings.dwell, pause.left);
+    let left = dwell_left(paced.ends, settings.dwell, hot.pause.left);
     let run = paced.run;
     let next = stepped(hot, run, left, a, b, c, d, e);
     Ran {

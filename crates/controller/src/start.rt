@@ -224,11 +224,11 @@ fn lessened(left: u32) -> u32
     left - 1
 }
 
-fn is_due(pause: Pause) -> bool
-    ensures { λ r. ⌜ r ≡ isDue pause ⌝ }
+fn is_due(left: u32, waiting: u8) -> bool
+    ensures { λ r. ⌜ r ≡ isDue left waiting ⌝ }
 {
-    if pause.left == 1 {
-        return 0 < pause.waiting;
+    if left == 1 {
+        return 0 < waiting;
     }
     false
 }
@@ -239,21 +239,17 @@ pub(crate) fn waits(settings: Settings, next: Plan, switch: u8, hot: Hot) -> Wai
     requires { ⌜ WaitFits next hot ⌝ }
     ensures { λ r. ⌜ r ≡ waitsOf settings next switch hot ⌝ }
 {
-    let pause = hot.pause;
     let mut after = hot;
     let mut number = 0;
-    if is_due(pause) {
+    if is_due(hot.pause.left, hot.pause.waiting) {
         let was = hot;
-        let waited = due(settings, next, switch, was, pause.waiting - 1);
+        let waited = due(settings, next, switch, was, hot.pause.waiting - 1);
         let tried = waited.hot;
         after = tried;
         number = waited.number;
     } else {
-        let left = Pause {
-            left: lessened(pause.left),
-            waiting: pause.waiting,
-        };
-        after.pause = left;
+        let left = lessened(hot.pause.left);
+        after.pause.left = left;
     }
     Waited { hot: after, number }
 }

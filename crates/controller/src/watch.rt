@@ -3,12 +3,9 @@ ghost use mathlib.Core.Path.{_≡_};
 ghost use Prim.Native.Nat.{_/_, min, _+_};
 ghost use Rattle.controller.specs.Inner.{raisedOf, isFull, takesOf, isCalm, limitBy, causeOf, causesOf, stopsOf};
 use crate::hot;
-use crate::hot::Flags;
 use crate::hot::Hot;
 use crate::hot::Plan;
-use crate::hot::Run;
 use crate::hot::Settings;
-use crate::hot::Wires;
 
 // The watch count at which the line counts as lost: 4 s.
 const WATCH_FULL: u32 = 1000000;
@@ -36,25 +33,16 @@ fn is_full(watch: u32, setting: u8) -> bool
 pub(crate) fn takes(settings: Settings, was: Hot, word: u32) -> Hot
     ensures { λ r. ⌜ r ≡ takesOf settings was word ⌝ }
 {
-    let told = was.flags;
     let active = inputs::emergency(settings.low, settings.high, word);
-    let flags = Flags {
-        wrong: told.wrong,
-        stopped: told.stopped,
-        emergency: hot::either(told.emergency, active),
-        sensed: told.sensed,
-    };
+    let emergency = hot::either(was.flags.emergency, active);
     let watch = raised(was.watch);
     let mut next = was;
     next.inputs = word;
     next.watch = watch;
-    next.flags = flags;
+    next.flags.emergency = emergency;
     if is_full(watch, settings.watch / 2) {
-        let ready = was.wires;
-        let cells = ready.cells;
-        let wires = Wires { general: 0, cells };
         next.outputs = 0;
-        next.wires = wires;
+        next.wires.general = 0;
     }
     next
 }
@@ -133,34 +121,21 @@ fn causes(
 pub(crate) fn stops(settings: Settings, was: Hot) -> Hot
     ensures { λ r. ⌜ r ≡ stopsOf settings was ⌝ }
 {
-    let run = was.run;
-    let told = was.flags;
     let plan = was.plan;
     let met = causes(
         settings,
         plan,
-        run.moving,
-        told.emergency,
+        was.run.moving,
+        was.flags.emergency,
         was.inputs,
         was.watch,
     );
-    let flags = Flags {
-        wrong: told.wrong,
-        stopped: hot::either(told.stopped, met.limit),
-        emergency: told.emergency,
-        sensed: hot::either(told.sensed, met.sensor),
-    };
-    let run = Run {
-        length: run.length,
-        gone: run.gone,
-        speed: run.speed,
-        phase: run.phase,
-        master: run.master,
-        moving: run.moving,
-        stopping: hot::either(run.stopping, met.any),
-    };
+    let stopping = hot::either(was.run.stopping, met.any);
+    let stopped = hot::either(was.flags.stopped, met.limit);
+    let sensed = hot::either(was.flags.sensed, met.sensor);
     let mut next = was;
-    next.run = run;
-    next.flags = flags;
+    next.run.stopping = stopping;
+    next.flags.stopped = stopped;
+    next.flags.sensed = sensed;
     next
 }

@@ -87,7 +87,7 @@ word-requires c κs =
 dwell-left-requires : tie.Need-dwell-left-requires
 dwell-left-requires c κs =
     let q = c .before .before .before .before .before .before .before .before .before in
-    q .before .before .before .before .before .before .before .before .before .pre .dwell
+    q .before .before .before .before .before .before .before .before .pre .dwell
 
 stepped-requires : tie.Need-stepped-requires
 stepped-requires c κs = search needs
@@ -95,7 +95,7 @@ stepped-requires c κs = search needs
 returns : tie.Need-returns
 returns c =
     let l = c .before .before in
-    let w = l .before .before in
+    let w = l .before in
     let u5 = w .before in
     let u4 = u5 .before in
     let u3 = u4 .before in

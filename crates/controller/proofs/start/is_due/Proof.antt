@@ -4,7 +4,7 @@ use Rattle.controller.proofs.start.is_due.Statement.{statement}
 use Rattle.controller.proofs.start.is_due.Tie as tie
 
 returns : tie.Need-returns
-returns c = rw (eq-eqb _ _ (c .before .if1 .taken))
+returns c = rw (eq-eqb _ _ (c .if1 .taken))
 
 returns-2 : tie.Need-returns-2
 returns-2 c = rw (ne-eqb _ _ (c .if1 .left))

@@ -15,14 +15,14 @@ is-due-requires c κs = search needs
 
 sub-due : tie.Need-sub-due
 sub-due c =
-    let p = c .before .before .before .before .args .hot .pause in
+    let p = c .before .before .before .args .hot .pause in
     let e = and-second (eqb (p .left) 1) (ltb 0 (p .waiting))
     (sym (c .before .before .is-due .ensures) ∙ c .before .if1 .taken) in
     omega (arith, ltb-true 0 (p .waiting) e)
 
 due-requires : tie.Need-due-requires
 due-requires c κs =
-    let q = c .before .before .before .before in
+    let q = c .before .before .before in
     let p = q .args .hot .pause in
     let e = and-second (eqb (p .left) 1) (ltb 0 (p .waiting))
     (sym (c .before .before .is-due .ensures) ∙ c .before .if1 .taken) in
@@ -39,9 +39,9 @@ returns c =
 returns-2 : tie.Need-returns-2
 returns-2 c =
     let h = c .before .before .before .before .args .hot in
-    on-false _ _ _ _ (sym (c .before .before .is-due .ensures) ∙ c .before .if1 .left)
+    on-false _ _ _ _ (sym (c .before .before .before .is-due .ensures) ∙ c .before .before .if1 .left)
     (λ i. record {
-      hot = withPause h (record { left = c .lessened .ensures i; waiting = h .pause .waiting });
+      hot = withPause h (record { left = c .before .lessened .ensures i; waiting = h .pause .waiting });
       number = 0;
     })
 

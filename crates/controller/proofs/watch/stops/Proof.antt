@@ -22,12 +22,13 @@ either-requires-3 c κs = search needs
 
 returns : tie.Need-returns
 returns c =
-    let e = c .before in
-    let d = e .before in
-    let m = d .before in
-    let h = m .before .before .before .before .args .was in
-    let s = m .before .before .before .before .args .settings in
-    (λ i. metWith h (c .either3 .ensures i) (d .either .ensures i) (e .either2 .ensures i))
+    let sensed = c .before .before .before in
+    let stopped = sensed .before in
+    let stopping = stopped .before in
+    let m = stopping .before in
+    let h = m .before .before .args .was in
+    let s = m .before .before .args .settings in
+    (λ i. metWith h (stopping .either .ensures i) (stopped .either2 .ensures i) (sensed .either3 .ensures i))
     ∙ (ap (λ (x : Met). metBy h x) (m .causes .ensures)
     ∙ met-is h (h .run .moving) (h .flags .emergency) (activeAt (s .low) (s .high) (h .inputs) 13) (limitOf s h))
 

@@ -21,22 +21,19 @@ is-full-requires c κs = search needs
 
 returns : tie.Need-returns
 returns c =
-    let q = c .before .before .before .before .before .before .before .before .before .args in
-    let e = sym (c .before .before .before .is-full .ensures ∙ ap (λ (n : ℕ). isFull n (q .settings .watch / 2))
-    (c .before .before .before .before .before .raised .ensures)) ∙ c .before .before .if1 .taken in
-    λ i. takesBy (q .was) (q .word) (c .before .before .before .before .before .raised .ensures i)
-    ((c .before .before .before .before .before .before .either .ensures ∙ ap
-    (λ (x : Bool). q .was .flags .emergency || x)
-    (c .before .before .before .before .before .before .before .emergency .ensures)) i) (sym e i)
+    let q = c .before .before .before .before .before .before .before .before .args in
+    let r = c .before .before .before .before .before .raised .ensures in
+    let e = sym (c .before .before .is-full .ensures ∙ ap (λ (n : ℕ). isFull n (q .settings .watch / 2)) r) ∙ c .before .if1 .taken in
+    λ i. takesBy (q .was) (q .word) (r i)
+    ((c .before .before .before .before .before .before .either .ensures ∙ ap (λ (x : Bool). q .was .flags .emergency || x) (c .before .before .before .before .before .before .before .emergency .ensures)) i) (sym e i)
 
 returns-2 : tie.Need-returns-2
 returns-2 c =
     let q = c .before .before .before .before .before .before .before .args in
-    let e = sym (c .before .is-full .ensures ∙ ap (λ (n : ℕ). isFull n (q .settings .watch / 2))
-    (c .before .before .before .raised .ensures)) ∙ c .if1 .left in
-    λ i. takesBy (q .was) (q .word) (c .before .before .before .raised .ensures i)
-    ((c .before .before .before .before .either .ensures ∙ ap (λ (x : Bool). q .was .flags .emergency || x)
-    (c .before .before .before .before .before .emergency .ensures)) i) (sym e i)
+    let r = c .before .before .before .before .raised .ensures in
+    let e = sym (c .before .is-full .ensures ∙ ap (λ (n : ℕ). isFull n (q .settings .watch / 2)) r) ∙ c .if1 .left in
+    λ i. takesBy (q .was) (q .word) (r i)
+    ((c .before .before .before .before .before .either .ensures ∙ ap (λ (x : Bool). q .was .flags .emergency || x) (c .before .before .before .before .before .before .emergency .ensures)) i) (sym e i)
 
 pub takes-spec : {M : Type 1} → statement M
 takes-spec =
