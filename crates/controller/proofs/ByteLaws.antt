@@ -30,7 +30,17 @@ use Rattle.machine.specs.Replies.{toldOf}
 use Rattle.machine.proofs.FitLaws.{Fits}
 use Rattle.controller.specs.Held.{held, heldHot, heldPlan, heldSettings}
 use Rattle.controller.specs.Inner.{begunOf, startOf, blockedIn}
-use Rattle.controller.specs.Orders.{numberOf, doesOf, turnedOf, turnedBy, withHot, withNext, orderedOf, droppedOf, storedOf}
+use Rattle.controller.specs.Orders.{
+  numberOf,
+  doesOf,
+  turnedOf,
+  turnedBy,
+  withHot,
+  withNext,
+  orderedOf,
+  droppedOf,
+  storedOf,
+}
 use Rattle.controller.specs.Told.{statusBy, statusOf, readingsOf}
 use Rattle.controller.proofs.TickLaws.{each-at}
 use Rattle.controller.proofs.StartLaws.{start-is, begun-is}

@@ -105,6 +105,7 @@ module _ (d M m t : ℕ) (p : m < M) (s : Share d M m t) where
       position = record { 0 = bias (z +ℤ directed minus ((m + 1) * d / M - t)) };
       remainder = (m + 1) * d % M;
       on = ltb t ((m + 1) * d / M);
+      pulse = pulseOf (ltb t ((m + 1) * d / M)) minus;
     }
 
     moved-is : t < d → movedOf (record { 0 = bias z }) minus ≡ record { 0 = bias (z +ℤ directed minus 1) }
@@ -147,6 +148,7 @@ module _ (d M m t : ℕ) (p : m < M) (s : Share d M m t) where
               position = record { 0 = bias (z +ℤ directed minus ((m + 1) * d / M - t)) };
               remainder = (m + 1) * d % M;
               on = b;
+              pulse = pulseOf b minus;
             }
         when true e =
             let h = ltb-true t ((m + 1) * d / M) e in
@@ -160,6 +162,7 @@ module _ (d M m t : ℕ) (p : m < M) (s : Share d M m t) where
               position = place i;
               remainder = (m + 1) * d % M;
               on = true;
+              pulse = directed minus 1;
             }
         when false e =
             let h = ltb-false t ((m + 1) * d / M) e in
@@ -171,6 +174,7 @@ module _ (d M m t : ℕ) (p : m < M) (s : Share d M m t) where
               position = record { 0 = bias (place i) };
               remainder = (m + 1) * d % M;
               on = false;
+              pulse = pos 0;
             }
 
 -- ---- A master pulse
@@ -187,6 +191,7 @@ module _ (m : Machine) (f : Fits m) (e : m .move .moving ≡ true) where
     position = record { 0 = bias (m .position k +ℤ pulse (m .move) (reached (m .move)) k) };
     remainder = reached (m .move) * m .move .plan .distance k % whole (m .move);
     on = ltb (m .move .travel k) (share (m .move) (reached (m .move)) k);
+    pulse = pulseOf (ltb (m .move .travel k) (share (m .move) (reached (m .move)) k)) (m .move .plan .minus k);
   }
 
   step-axis : (k : ℕ) → k < 5

@@ -7,10 +7,10 @@ use native.Mathlib.Nat.{mod-eq-of-lt, mod-eq-sub-mod}
 use borrow.Author.Tests.{le-leb, lt-leb, leb-true}
 use mathlib.Core.List.{[], _∷_}
 use lib.Dec.{ltb, eqb}
-use lib.IntN.{ℤ, pos}
-use lib.ListN.{getD}
+use lib.IntN.{pos, negsuc}
 use mir.Syntax.{w8}
 use mir.Val.{toZ, ofZ}
+use lib.ListN.{getD}
 use Rattle.laws.specs.Axes.{each}
 use Rattle.laws.proofs.Pick.{on-le, on-gt}
 use Rattle.machine.specs.Ramp.{full, braked, towards}
@@ -32,6 +32,8 @@ use Rattle.controller.specs.Inner.{
   axisIn,
   axisStill,
   axisAt,
+  travelAt,
+  positionAt,
   pulseOf,
   wordBy,
   restBy,
@@ -83,6 +85,7 @@ module _ (s : Share) (t : Travel) (p : Position) (minus : Bool) where
         position = record { 0 = p .0 - 1 };
         remainder = s .remainder;
         on = true;
+        pulse = negsuc 0;
       })
       (axisBy s t p minus)
   axis-down e f = rw (e, f)
@@ -93,56 +96,82 @@ module _ (s : Share) (t : Travel) (p : Position) (minus : Bool) where
         position = record { 0 = p .0 + 1 };
         remainder = s .remainder;
         on = true;
+        pulse = pos 1;
       })
       (axisBy s t p minus)
   axis-up e f = rw (e, f)
 
   pub axis-still : s .on ≡ false
-      → _≡_ {A = Axis} (record { travel = t; position = p; remainder = s .remainder; on = false }) (axisBy s t p minus)
+      → _≡_ {A = Axis} (record { travel = t; position = p; remainder = s .remainder; on = false; pulse = pos 0 })
+      (axisBy s t p minus)
   axis-still e = rw e
 
--- ---- A master pulse
+  -- The pulse says which way, and whether.
+  pub axis-pulse : axisBy s t p minus .pulse ≡ pulseOf (axisBy s t p minus .on) minus
+  axis-pulse = when (s .on)
+    where
+      when : (b : Bool)
+          → axisBy (record { remainder = s .remainder; on = b }) t p minus .pulse
+          ≡ pulseOf (axisBy (record { remainder = s .remainder; on = b }) t p minus .on) minus
+      when true = refl
+      when false = refl
 
--- A pulse that went through eight bits.
-pulse-bits : (z : ℤ) (on minus : Bool) → z ≡ pulseOf on minus → toZ w8 (ofZ w8 z) ≡ pulseOf on minus
-pulse-bits z on minus e = ap (λ (x : ℤ). toZ w8 (ofZ w8 x)) e ∙ back on minus
-  where
-    back : (on minus : Bool) → toZ w8 (ofZ w8 (pulseOf on minus)) ≡ pulseOf on minus
-    back true true = refl
-    back true false = refl
-    back false minus = refl
+  -- The pulse after it went through eight bits.
+  pub axis-bits : toZ w8 (ofZ w8 (axisBy s t p minus .pulse)) ≡ axisBy s t p minus .pulse
+  axis-bits = when (s .on) minus
+    where
+      when : (b m : Bool)
+          → toZ w8 (ofZ w8 (axisBy (record { remainder = s .remainder; on = b }) t p m .pulse))
+          ≡ axisBy (record { remainder = s .remainder; on = b }) t p m .pulse
+      when true true = refl
+      when true false = refl
+      when false m = refl
+
+-- ---- A tick of the ramp
 
 -- What ramp and pulses answer, from what their parts answer.
 module _ (s : Settings) (h : Hot) where
-  pub ran-is : (p : Paced) (a b c d e : Axis) (left : ℕ) (hot : Hot) (w : ℕ) (z0 z1 z2 z3 z4 : ℤ)
+  abbrev shareIn : ℕ → Share
+  shareIn k = shareOf (getD (h .counters .remainders) k 0) (getD (h .plan .distances) k 0) (h .run .length)
+
+  bits : (fires : Bool) (k : ℕ) → toZ w8 (ofZ w8 (axisAt h fires k .pulse)) ≡ axisAt h fires k .pulse
+  bits false k = refl
+  bits true k =
+      axis-bits (shareIn k) (travelAt (h .counters) k) (positionAt (h .counters) k) (getD (h .plan .minus) k false)
+
+  back : (x : Axis) (fires : Bool) (k : ℕ) → x ≡ axisAt h fires k → toZ w8 (ofZ w8 (x .pulse)) ≡ x .pulse
+  back x fires k e =
+      ap (λ (y : Axis). toZ w8 (ofZ w8 (y .pulse))) e ∙ (bits fires k ∙ sym (ap (λ (y : Axis). y .pulse) e))
+
+  pub ran-is : (p : Paced) (a b c d e : Axis) (left : ℕ) (hot : Hot) (w : ℕ)
       → p ≡ pacedOf s (h .run)
       → a ≡ axisAt h (p .fires) 0 → b ≡ axisAt h (p .fires) 1 → c ≡ axisAt h (p .fires) 2
       → d ≡ axisAt h (p .fires) 3 → e ≡ axisAt h (p .fires) 4
       → left ≡ leftOf (p .ends) (s .dwell) (h .pause .left) → hot ≡ afterOf h (p .run) left a b c d e
       → w ≡ wordBy (h .wires) (a .on) (b .on) (c .on) (d .on) (e .on)
-      → z0 ≡ pulseOf (a .on) (getD (h .plan .minus) 0 false) → z1 ≡ pulseOf (b .on) (getD (h .plan .minus) 1 false)
-      → z2 ≡ pulseOf (c .on) (getD (h .plan .minus) 2 false) → z3 ≡ pulseOf (d .on) (getD (h .plan .minus) 3 false)
-      → z4 ≡ pulseOf (e .on) (getD (h .plan .minus) 4 false)
       → _≡_ {A = Ran} (record {
         hot = hot;
         first = w;
-        pulses = toZ w8 (ofZ w8 z0) ∷ toZ w8 (ofZ w8 z1) ∷ toZ w8 (ofZ w8 z2) ∷ toZ w8 (ofZ w8 z3)
-            ∷ toZ w8 (ofZ w8 z4) ∷ [];
+        pulses = toZ w8 (ofZ w8 (a .pulse)) ∷ toZ w8 (ofZ w8 (b .pulse)) ∷ toZ w8 (ofZ w8 (c .pulse))
+            ∷ toZ w8 (ofZ w8 (d .pulse)) ∷ toZ w8 (ofZ w8 (e .pulse)) ∷ [];
       })
       (ranTo s h (pacedOf s (h .run)))
-  ran-is p a b c d e left hot w z0 z1 z2 z3 z4 ep ea eb ec ed ee el eh ew e0 e1 e2 e3 e4 =
+  ran-is p a b c d e left hot w ep ea eb ec ed ee el eh ew =
       _∙_ {b = ranBy h (p .run) left a b c d e}
       (λ i. record {
         hot = eh i;
         first = ew i;
-        pulses = pulse-bits z0 (a .on) (getD (h .plan .minus) 0 false) e0 i ∷ pulse-bits z1 (b .on)
-            (getD (h .plan .minus) 1 false) e1 i ∷ pulse-bits z2 (c .on) (getD (h .plan .minus) 2 false) e2 i
-            ∷ pulse-bits z3 (d .on) (getD (h .plan .minus) 3 false) e3 i
-            ∷ pulse-bits z4 (e .on) (getD (h .plan .minus) 4 false) e4 i ∷ [];
+        pulses = back a (p .fires) 0 ea i ∷ back b (p .fires) 1 eb i ∷ back c (p .fires) 2 ec i
+            ∷ back d (p .fires) 3 ed i ∷ back e (p .fires) 4 ee i ∷ [];
       })
       (_∙_ {b = ranTo s h p}
       (λ i. ranBy h (p .run) (el i) (ea i) (eb i) (ec i) (ed i) (ee i))
       (λ i. ranTo s h (ep i)))
+
+  -- The pulse of an axis at a master pulse.
+  told : (k : ℕ) → axisIn h k .pulse ≡ pulseOf (axisIn h k .on) (getD (h .plan .minus) k false)
+  told k =
+      axis-pulse (shareIn k) (travelAt (h .counters) k) (positionAt (h .counters) k) (getD (h .plan .minus) k false)
 
   abbrev step : Hot
   step =
@@ -195,8 +224,16 @@ module _ (s : Settings) (h : Hot) where
       when true true short last = still (atRest (h .run)) (250 * s .dwell)
       when true false true last =
           still (spedOf (h .run) (rampOf s (h .run)) (h .run .phase + rampOf s (h .run))) (h .pause .left)
-      when true false false true = refl
-      when true false false false = refl
+      when true false false true = λ i. record {
+        hot = endedOf step (s .dwell);
+        pulses = told 0 i ∷ told 1 i ∷ told 2 i ∷ told 3 i ∷ told 4 i ∷ [];
+        first = wordBy (h .wires) (axisIn h 0 .on) (axisIn h 1 .on) (axisIn h 2 .on) (axisIn h 3 .on) (axisIn h 4 .on);
+      }
+      when true false false false = λ i. record {
+        hot = step;
+        pulses = told 0 i ∷ told 1 i ∷ told 2 i ∷ told 3 i ∷ told 4 i ∷ [];
+        first = wordBy (h .wires) (axisIn h 0 .on) (axisIn h 1 .on) (axisIn h 2 .on) (axisIn h 3 .on) (axisIn h 4 .on);
+      }
 
 -- Where the master pulses, a move runs.
 pub fires-moving : (s : Settings) (r : Run) (p : Paced) → p ≡ pacedOf s r → p .fires ≡ true → r .moving ≡ true

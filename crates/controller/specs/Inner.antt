@@ -112,8 +112,14 @@ positionAt c k = getD (c .positions) k (record { 0 = 0 })
 abbrev pub axisBy : Share → Travel → Position → Bool → Axis
 axisBy s t p minus =
     cond (s .on)
-    (record { travel = record { 0 = t .0 + 1 }; position = movedOf p minus; remainder = s .remainder; on = true })
-    (record { travel = t; position = p; remainder = s .remainder; on = false })
+    (record {
+      travel = record { 0 = t .0 + 1 };
+      position = movedOf p minus;
+      remainder = s .remainder;
+      on = true;
+      pulse = directed minus 1;
+    })
+    (record { travel = t; position = p; remainder = s .remainder; on = false; pulse = pos 0 })
 
 abbrev pub axisOf : Plan → Counters → ℕ → ℕ → Axis
 axisOf p c length k =
@@ -137,6 +143,7 @@ axisStill c k = record {
   position = positionAt c k;
   remainder = getD (c .remainders) k 0;
   on = false;
+  pulse = pos 0;
 }
 
 abbrev pub axisWhen : Bool → Plan → Counters → ℕ → ℕ → Axis
@@ -320,10 +327,7 @@ afterOf h run left a b c d e = record {
 abbrev pub ranBy : Hot → Run → ℕ → Axis → Axis → Axis → Axis → Axis → Ran
 ranBy h run left a b c d e = record {
   hot = afterOf h run left a b c d e;
-  pulses =
-      pulseOf (a .on) (getD (h .plan .minus) 0 false) ∷ pulseOf (b .on) (getD (h .plan .minus) 1 false)
-      ∷ pulseOf (c .on) (getD (h .plan .minus) 2 false) ∷ pulseOf (d .on) (getD (h .plan .minus) 3 false)
-      ∷ pulseOf (e .on) (getD (h .plan .minus) 4 false) ∷ [];
+  pulses = a .pulse ∷ b .pulse ∷ c .pulse ∷ d .pulse ∷ e .pulse ∷ [];
   first = wordBy (h .wires) (a .on) (b .on) (c .on) (d .on) (e .on);
 }
 

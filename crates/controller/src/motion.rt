@@ -5,7 +5,6 @@ ghost use Rattle.machine.specs.Ramp.{braked, towards};
 ghost use Rattle.controller.specs.Inner.{
   rampOf,
   shareOf,
-  pulseOf,
   axisWhen,
   levelOf,
   wordBy,
@@ -113,24 +112,13 @@ fn share_step(remainder: u32, distance: u32, length: u32) -> Share
     }
 }
 
-// The pulse that a tick answers for an axis.
-fn pulse(on: bool, minus: bool) -> i8
-    ensures { λ r. ⌜ r ≡ pulseOf on minus ⌝ }
-{
-    if on {
-        if minus {
-            return -1;
-        }
-        return 1;
-    }
-    0
-}
-
+// An axis after a tick, whether it pulses, and the pulse that the tick answers for it.
 pub struct Axis {
     pub travel: Travel,
     pub position: Position,
     pub remainder: u32,
     pub on: bool,
+    pub pulse: i8,
 }
 
 // One axis in a tick: where the master pulses and its share grows, its travel and position go one further.
@@ -147,6 +135,7 @@ fn axis_step(fires: bool, plan: Plan, counters: Counters, length: u32, k: usize)
             position: p,
             remainder,
             on: false,
+            pulse: 0,
         };
     }
     let s = share_step(remainder, plan.distances[k], length);
@@ -157,6 +146,7 @@ fn axis_step(fires: bool, plan: Plan, counters: Counters, length: u32, k: usize)
                 position: Position(p.0 - 1),
                 remainder: s.remainder,
                 on: true,
+                pulse: -1,
             };
         }
         return Axis {
@@ -164,6 +154,7 @@ fn axis_step(fires: bool, plan: Plan, counters: Counters, length: u32, k: usize)
             position: Position(p.0 + 1),
             remainder: s.remainder,
             on: true,
+            pulse: 1,
         };
     }
     Axis {
@@ -171,6 +162,7 @@ fn axis_step(fires: bool, plan: Plan, counters: Counters, length: u32, k: usize)
         position: p,
         remainder: s.remainder,
         on: false,
+        pulse: 0,
     }
 }
 
@@ -375,14 +367,7 @@ pub(crate) fn runs(settings: Settings, hot: Hot) -> Ran
     let c = axis_step(fires, plan, counters, length, 2);
     let d = axis_step(fires, plan, counters, length, 3);
     let e = axis_step(fires, plan, counters, length, 4);
-    let minus = plan.minus;
-    let pulses = [
-        pulse(a.on, minus[0]),
-        pulse(b.on, minus[1]),
-        pulse(c.on, minus[2]),
-        pulse(d.on, minus[3]),
-        pulse(e.on, minus[4]),
-    ];
+    let pulses = [a.pulse, b.pulse, c.pulse, d.pulse, e.pulse];
     let first = word(wires, a.on, b.on, c.on, d.on, e.on);
     let left = dwell_left(paced.ends, settings.dwell, hot.pause.left);
     let run = paced.run;

@@ -38,7 +38,29 @@ use Rattle.machine.specs.Ramp.{runs}
 use Rattle.machine.specs.Stops.{takes, cause, limitOrWatch, stops, stopping, marks, sensorActive, blocked}
 use Rattle.machine.specs.Starts.{startNumber, newMove, begun, notes, outside, final}
 use Rattle.machine.specs.Commands.{number, does, stores, setAxis, drops}
-use Rattle.machine.specs.Steps.{Outcome, refused, accepted, decided, outcomeOf, outcome, answered, heardBy, Tried, untried, failed, began, tryStart, tryWaiting, tries, waits, looks, ticked, refusedTick, failure, tooLarge}
+use Rattle.machine.specs.Steps.{
+  Outcome,
+  refused,
+  accepted,
+  decided,
+  outcomeOf,
+  outcome,
+  answered,
+  heardBy,
+  Tried,
+  untried,
+  failed,
+  began,
+  tryStart,
+  tryWaiting,
+  tries,
+  waits,
+  looks,
+  ticked,
+  refusedTick,
+  failure,
+  tooLarge,
+}
 use Rattle.machine.specs.Calls.{Call, byte, tick, after}
 use Rattle.machine.specs.Demand.{
   Role,

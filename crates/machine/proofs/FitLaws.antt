@@ -23,13 +23,62 @@ use Rattle.line.specs.Fits.{CommandFits, JudgedFits}
 use Rattle.line.proofs.Fits.{judge-fits}
 use Rattle.receiver.specs.Receiver.{Receipt}
 use Rattle.reply.specs.Reply.{bias}
-use Rattle.machine.specs.State.{Settings, Plan, Move, Machine, Waiting, none, start, Pause, withMove, withSettings, withWatch, withPause, withFlags}
+use Rattle.machine.specs.State.{
+  Settings,
+  Plan,
+  Move,
+  Machine,
+  Waiting,
+  none,
+  start,
+  Pause,
+  withMove,
+  withSettings,
+  withWatch,
+  withPause,
+  withFlags,
+}
 use Rattle.machine.specs.Shares.{whole, gone, share, pulse}
-use Rattle.machine.specs.Ramp.{Ran, full, remaining, braked, towards, ramped, atRest, ended, stepped, pulsed, advanced, runs}
+use Rattle.machine.specs.Ramp.{
+  Ran,
+  full,
+  remaining,
+  braked,
+  towards,
+  ramped,
+  atRest,
+  ended,
+  stepped,
+  pulsed,
+  advanced,
+  runs,
+}
 use Rattle.machine.specs.Stops.{takes, cause, stops, stopping, marks}
 use Rattle.machine.specs.Starts.{startNumber, begun, notes, outside}
 use Rattle.machine.specs.Commands.{number, does, stores, drops}
-use Rattle.machine.specs.Steps.{powerOn, Outcome, refused, decided, outcomeOf, outcome, answered, heardBy, Tried, failed, began, tryStart, tryWaiting, tries, waits, looks, ticked, refusedTick, failure, tooLarge, tickStep}
+use Rattle.machine.specs.Steps.{
+  powerOn,
+  Outcome,
+  refused,
+  decided,
+  outcomeOf,
+  outcome,
+  answered,
+  heardBy,
+  Tried,
+  failed,
+  began,
+  tryStart,
+  tryWaiting,
+  tries,
+  waits,
+  looks,
+  ticked,
+  refusedTick,
+  failure,
+  tooLarge,
+  tickStep,
+}
 use Rattle.machine.specs.Calls.{Call, byte, tick, after, state}
 use Rattle.machine.proofs.ShareLaws.{share-none, share-grows, share-once}
 use Rattle.machine.proofs.RunLaws.{Good, step-pulse, runs-step, runs-end, true-false}

@@ -5,7 +5,14 @@ use Prim.Native.Nat.{ℕ, _+_, _-_, _*_, _/_, _≤_, _<_}
 use mathlib.Core.Bool.{Bool, true, false, cond}
 use mathlib.Core.Path.{_≡_, refl, sym, ap, subst, _∙_}
 use native.Mathlib.Omega.{arith}
-use native.Mathlib.Nat.{div-mul-le-self, lt-div-mul-add, le-div-iff-mul-le, div-lt-iff-lt-mul, mul-div-right, lt-of-mul-lt-mul-right}
+use native.Mathlib.Nat.{
+  div-mul-le-self,
+  lt-div-mul-add,
+  le-div-iff-mul-le,
+  div-lt-iff-lt-mul,
+  mul-div-right,
+  lt-of-mul-lt-mul-right,
+}
 use borrow.Author.Tests.{lt-ltb}
 use lib.Dec.{ltb}
 use lib.IntN.{ℤ, pos, natAbs}

@@ -5,7 +5,21 @@ use lib.Dec.{ltb, leb, eqb}
 use lib.IntN.{pos}
 use Rattle.line.specs.declared.Command.{Command}
 use Rattle.line.specs.declared.Command.the-variants as C
-use Rattle.machine.specs.State.{Settings, Plan, none, start, Machine, withSettings, withNext, withMove, withPosition, withOutputs, withWatch, withFlags, withPause}
+use Rattle.machine.specs.State.{
+  Settings,
+  Plan,
+  none,
+  start,
+  Machine,
+  withSettings,
+  withNext,
+  withMove,
+  withPosition,
+  withOutputs,
+  withWatch,
+  withFlags,
+  withPause,
+}
 use Rattle.machine.specs.Stops.{emergencyActive, stopping, marks}
 use Rattle.machine.specs.Starts.{turnedBy, startNumber, begun, notes}
 

@@ -4,7 +4,17 @@ use mathlib.Core.Bool.{Bool, true, cond, _&&_, _||_}
 use lib.Dec.{ltb, leb}
 use Rattle.laws.specs.Bits.{bit, weight}
 use Rattle.inputs.specs.Inputs.{someBlocked, activeAt}
-use Rattle.machine.specs.State.{Plan, Move, Flags, Machine, withMove, withFlags, withInputs, withOutputs, withWatch}
+use Rattle.machine.specs.State.{
+  Plan,
+  Move,
+  Flags,
+  Machine,
+  withMove,
+  withFlags,
+  withInputs,
+  withOutputs,
+  withWatch,
+}
 
 -- An axis of a plan is blocked by the inputs under the present settings.
 abbrev pub blocked : Machine → Plan → Bool

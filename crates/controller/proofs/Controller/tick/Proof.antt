@@ -59,7 +59,8 @@ rest-requires c κs =
     let et = took m (q .args .word) f (q .args .self) (r .made) _ (t .takes .ensures) in
     let ew = waited-is m (q .args .word) f (q .args .self) (r .made) _ _ et (w .waits .ensures) in
     let es = stop-is m (q .args .word) f (q .args .self) (r .made) _ _ ew (p .stops .ensures) in
-    run-wires m (q .args .word) f (q .args .self) (r .made) _ (run-was m (q .args .word) f (q .args .self) (r .made) _ _ es (v .runs .ensures))
+    run-wires m (q .args .word) f (q .args .self) (r .made) _
+    (run-was m (q .args .word) f (q .args .self) (r .made) _ _ es (v .runs .ensures))
 
 returns-2 : tie.Need-returns-2
 returns-2 c =

@@ -49,45 +49,15 @@ axis-step-requires-5 c κs =
       λ f. q .pre .axes (fires-moving (q .args .settings) (q .args .hot .run) (p .result) (p .ensures) f) 4 (omega arith),
     )
 
-array-read-pulse : tie.Need-array-read-pulse
-array-read-pulse c = search needs
-
-pulse-requires : tie.Need-pulse-requires
-pulse-requires c κs = search needs
-
-array-read-pulse-2 : tie.Need-array-read-pulse-2
-array-read-pulse-2 c = search needs
-
-pulse-requires-2 : tie.Need-pulse-requires-2
-pulse-requires-2 c κs = search needs
-
-array-read-pulse-3 : tie.Need-array-read-pulse-3
-array-read-pulse-3 c = search needs
-
-pulse-requires-3 : tie.Need-pulse-requires-3
-pulse-requires-3 c κs = search needs
-
-array-read-pulse-4 : tie.Need-array-read-pulse-4
-array-read-pulse-4 c = search needs
-
-pulse-requires-4 : tie.Need-pulse-requires-4
-pulse-requires-4 c κs = search needs
-
-array-read-pulse-5 : tie.Need-array-read-pulse-5
-array-read-pulse-5 c = search needs
-
-pulse-requires-5 : tie.Need-pulse-requires-5
-pulse-requires-5 c κs = search needs
-
 word-requires : tie.Need-word-requires
 word-requires c κs =
     let q = c .before .before .before .before .before .before .before .before in
-    q .before .before .before .before .before .before .before .before .pre .wires
+    q .before .before .before .before .before .before .before .pre .wires
 
 dwell-left-requires : tie.Need-dwell-left-requires
 dwell-left-requires c κs =
     let q = c .before .before .before .before .before .before .before .before .before in
-    q .before .before .before .before .before .before .before .before .pre .dwell
+    q .before .before .before .before .before .before .before .pre .dwell
 
 stepped-requires : tie.Need-stepped-requires
 stepped-requires c κs = search needs
@@ -96,12 +66,7 @@ returns : tie.Need-returns
 returns c =
     let l = c .before .before in
     let w = l .before in
-    let u5 = w .before in
-    let u4 = u5 .before in
-    let u3 = u4 .before in
-    let u2 = u3 .before in
-    let u1 = u2 .before in
-    let a5 = u1 .before .before in
+    let a5 = w .before .before .before .before .before .before in
     let a4 = a5 .before in
     let a3 = a4 .before in
     let a2 = a3 .before in
@@ -112,12 +77,10 @@ returns c =
     (a1 .axis-step .result) (a2 .axis-step2 .result) (a3 .axis-step3 .result) (a4 .axis-step4 .result)
     (a5 .axis-step5 .result)
     (l .dwell-left .result) (c .stepped .result) (w .word .result)
-    (u1 .pulse .result) (u2 .pulse2 .result) (u3 .pulse3 .result) (u4 .pulse4 .result) (u5 .pulse5 .result)
     (p .pace .ensures)
     (a1 .axis-step .ensures) (a2 .axis-step2 .ensures) (a3 .axis-step3 .ensures) (a4 .axis-step4 .ensures)
     (a5 .axis-step5 .ensures)
     (l .dwell-left .ensures) (c .stepped .ensures) (w .word .ensures)
-    (u1 .pulse .ensures) (u2 .pulse2 .ensures) (u3 .pulse3 .ensures) (u4 .pulse4 .ensures) (u5 .pulse5 .ensures)
     ∙ one-way (q .args .settings) (q .args .hot) (q .pre .counted)
 
 pub runs-spec : {M : Type 1} → statement M
@@ -130,16 +93,6 @@ runs-spec =
     axis-step-requires-3
     axis-step-requires-4
     axis-step-requires-5
-    array-read-pulse
-    pulse-requires
-    array-read-pulse-2
-    pulse-requires-2
-    array-read-pulse-3
-    pulse-requires-3
-    array-read-pulse-4
-    pulse-requires-4
-    array-read-pulse-5
-    pulse-requires-5
     word-requires
     dwell-left-requires
     stepped-requires

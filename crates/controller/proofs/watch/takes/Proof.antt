@@ -21,19 +21,27 @@ is-full-requires c κs = search needs
 
 returns : tie.Need-returns
 returns c =
-    let q = c .before .before .before .before .before .before .before .before .args in
-    let r = c .before .before .before .before .before .raised .ensures in
-    let e = sym (c .before .before .is-full .ensures ∙ ap (λ (n : ℕ). isFull n (q .settings .watch / 2)) r) ∙ c .before .if1 .taken in
-    λ i. takesBy (q .was) (q .word) (r i)
-    ((c .before .before .before .before .before .before .either .ensures ∙ ap (λ (x : Bool). q .was .flags .emergency || x) (c .before .before .before .before .before .before .before .emergency .ensures)) i) (sym e i)
+    let f = c .before .before in
+    let r = f .before .before .before in
+    let e = r .before in
+    let q = e .before .before .args in
+    let held = e .either .ensures
+    ∙ ap (λ (x : Bool). q .was .flags .emergency || x) (e .before .emergency .ensures) in
+    let full = sym (f .is-full .ensures ∙ ap (λ (n : ℕ). isFull n (q .settings .watch / 2)) (r .raised .ensures))
+    ∙ c .before .if1 .taken in
+    λ i. takesBy (q .was) (q .word) (r .raised .ensures i) (held i) (sym full i)
 
 returns-2 : tie.Need-returns-2
 returns-2 c =
-    let q = c .before .before .before .before .before .before .before .args in
-    let r = c .before .before .before .before .raised .ensures in
-    let e = sym (c .before .is-full .ensures ∙ ap (λ (n : ℕ). isFull n (q .settings .watch / 2)) r) ∙ c .if1 .left in
-    λ i. takesBy (q .was) (q .word) (r i)
-    ((c .before .before .before .before .before .either .ensures ∙ ap (λ (x : Bool). q .was .flags .emergency || x) (c .before .before .before .before .before .before .emergency .ensures)) i) (sym e i)
+    let f = c .before in
+    let r = f .before .before .before in
+    let e = r .before in
+    let q = e .before .before .args in
+    let held = e .either .ensures
+    ∙ ap (λ (x : Bool). q .was .flags .emergency || x) (e .before .emergency .ensures) in
+    let full = sym (f .is-full .ensures ∙ ap (λ (n : ℕ). isFull n (q .settings .watch / 2)) (r .raised .ensures))
+    ∙ c .if1 .left in
+    λ i. takesBy (q .was) (q .word) (r .raised .ensures i) (held i) (sym full i)
 
 pub takes-spec : {M : Type 1} → statement M
 takes-spec =
