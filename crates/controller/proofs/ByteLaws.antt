@@ -24,7 +24,7 @@ use Rattle.reply.proofs.Replies.{reply-same}
 use Rattle.machine.specs.State.{Machine, withFlags, withMove, withWatch, withPause, start}
 use Rattle.machine.specs.Stops.{status, blocked, stopping, marks}
 use Rattle.machine.specs.Starts.{begun, notes, outside}
-use Rattle.machine.specs.Commands.{number, does, drops, stores, turned}
+use Rattle.machine.specs.Commands.{number, does, drops, stores, keepsStart, turned}
 use Rattle.machine.specs.Replies as machine
 use Rattle.machine.specs.Replies.{toldOf}
 use Rattle.machine.proofs.FitLaws.{Fits}
@@ -78,7 +78,7 @@ does-is m (C.Start k w) h = when (stores m w)
     when : (t : Bool)
         → cond t (withHot (held m) (storedOf (heldHot m) k))
         (withHot (held m) (begunOf (heldPlan (m .next)) (m .settings .polarity) (m .switch) (heldHot m) k))
-        ≡ held (cond t (withPause m (record { left = m .pause .left; waiting = start k })) (begun m k))
+        ≡ held (cond t (keepsStart m k) (begun m k))
     when true = refl
     when false = ap (withHot (held m)) (begun-is m k h)
 does-is m C.Stop h = when (m .move .moving)

@@ -8,3 +8,5 @@ pub mod StageLaws
 pub mod ByteLaws
 pub mod EntryLaws
 pub mod ReachLaws
+pub mod AnswerLaws
+pub mod FrontLaws

@@ -4,7 +4,7 @@ use Prim.Native.Nat.{ℕ}
 use mathlib.Core.List.{List, [], _∷_}
 use mathlib.Core.Path.{_≡_, sym, ap}
 use Rattle.machine.specs.Calls.{Call, byte, tick, state}
-use Rattle.machine.specs.Steps.{byteStep, tickStep}
+use Rattle.machine.specs.Steps.{byteStep, tickStep, bufferAfter}
 use Rattle.controller.specs.declared.Controller.{Controller}
 use Rattle.controller.specs.declared.PowerOn.{PowerOn}
 use Rattle.controller.specs.declared.ByteAnswer.{ByteAnswer}
@@ -49,3 +49,16 @@ reach-byte c q b d r p = record {
   history = byte b d ∷ q .history;
   made = after-byte c (q .switch) (q .history) (q .made) b d r p;
 }
+
+-- ---- What `tick` and `byte` promise together
+
+pub tick-answers : (c : Controller) → Reachable c → (w : ℕ) (r : TickAnswer) → Made c (λ m. r ≡ heldTick (tickStep m w))
+    → Made c (λ m. r ≡ heldTick (tickStep m w)) × Reachable (r .controller)
+tick-answers c q w r p = (p, reach-tick c q w r p)
+
+pub byte-answers : (c : Controller) → Reachable c → (b : ℕ) (d x : List ℕ) (r : ByteAnswer)
+    → Made c (λ m. (r ≡ heldByte (byteStep m b d)) × (x ≡ bufferAfter (byteStep m b d) d))
+    → Made c (λ m. r ≡ heldByte (byteStep m b d))
+    × (Made c (λ m. x ≡ bufferAfter (byteStep m b d) d) × Reachable (r .controller))
+byte-answers c q b d x r p =
+    (λ s h e. p s h e .0, (λ s h e. p s h e .1, reach-byte c q b d r (λ s h e. p s h e .0)))

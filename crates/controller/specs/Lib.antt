@@ -1,5 +1,6 @@
 pub mod Held
 pub mod Reach
+pub mod Answers
 pub mod Inner
 pub mod Orders
 pub mod Told

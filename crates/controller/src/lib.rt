@@ -2,8 +2,11 @@
 // word. Its fields are private, so that only power-on and calls can make one. Each entry's answer is the machine's of
 // the crate `machine`, held as specs/Held.antt says; the only premise is that the controller is reachable. Assumes
 // nothing.
+ghost use mathlib.Core.List.{map};
 ghost use mathlib.Core.Path.{_≡_};
 ghost use Rattle.laws.specs.Axes.{each};
+ghost use Rattle.block.specs.Block.{frontOf};
+ghost use Rattle.reply.specs.Reply.{positionOf};
 ghost use Rattle.machine.specs.Demand.{Demand3};
 ghost use Rattle.machine.specs.Marked.{Marked};
 ghost use Rattle.machine.specs.Witness.{Witness};
@@ -11,6 +14,7 @@ ghost use Rattle.machine.specs.Steps.{byteStep, tickStep, bufferAfter};
 ghost use Rattle.machine.specs.Stops.{status};
 ghost use Rattle.controller.specs.Held.{heldPower, heldTravel, heldPosition, heldByte, heldTick};
 ghost use Rattle.controller.specs.Reach.{Reachable, Made};
+ghost use Rattle.controller.specs.Answers.{Demand3Answers, ReplyIn};
 ghost use Rattle.controller.specs.Power.{badOf, freshOf, lineWith};
 use crate::hot::Counters;
 use crate::hot::Flags;
@@ -25,12 +29,12 @@ use receiver::Receiver;
 use reply::Position;
 use reply::Travel;
 
-pub mod hot;
-pub mod motion;
-pub mod orders;
-pub mod start;
-pub mod told;
-pub mod watch;
+mod hot;
+mod motion;
+mod orders;
+mod start;
+mod told;
+mod watch;
 
 // What only bytes alter.
 pub struct Cold {
@@ -144,13 +148,16 @@ fn fresh(switch: u8) -> Controller
     Controller { hot, cold }
 }
 
-// Power-on. The theorem about every list of calls, the marked table and a computed list stand here as promises, so
-// that the gate keeps them: they speak of the machine whose held values every entry answers.
+// Power-on. The theorem about every list of calls, the marked table and computed lists stand here as promises, so that
+// the gate keeps them: they speak of the machine whose held values every entry answers. The same theorem over the answers
+// of these entries themselves stands beside it (`Demand3Answers`).
 pub fn power_on(switch: u8) -> PowerOn
     ensures { λ r. ⌜ r ≡ heldPower switch ⌝ }
     ensures { λ _. ⌜ Demand3 ⌝ }
     ensures { λ _. ⌜ Marked ⌝ }
     ensures { λ _. ⌜ Witness ⌝ }
+    ensures { λ _. ⌜ Demand3Answers ⌝ }
+    ensures { λ r. ⌜ Reachable (r .controller) ⌝ }
 {
     if is_bad(switch) {
         let controller = fresh(0);
@@ -164,6 +171,15 @@ pub fn power_on(switch: u8) -> PowerOn
         controller,
         number: 0,
     }
+}
+
+// The reply that a received byte left in its lent buffer, by the length that it answered: the front part, empty for a
+// length past the end.
+pub fn front(buf: &[u8], n: usize) -> &[u8]
+    ensures { λ r. ⌜ now r ≡ frontOf (now (buf .entry)) n ⌝ }
+    ensures { λ r. ⌜ ReplyIn (now (buf .entry)) n (now r) ⌝ }
+{
+    block::front(buf, n)
 }
 
 // The controller with the characters received so far.
@@ -182,6 +198,7 @@ impl Controller {
         requires { ⌜ Reachable self ⌝ }
         ensures { λ r. ⌜ Made self (λ m. r ≡ heldByte (byteStep m b (now (buf .entry)))) ⌝ }
         ensures { λ r. ⌜ Made self (λ m. now (buf .exit) ≡ bufferAfter (byteStep m b (now (buf .entry))) (now (buf .entry))) ⌝ }
+        ensures { λ r. ⌜ Reachable (r .controller) ⌝ }
     {
         if buf.len() < 120 {
             return ByteAnswer {
@@ -214,6 +231,7 @@ impl Controller {
     pub fn tick(self, word: u32) -> TickAnswer
         requires { ⌜ Reachable self ⌝ }
         ensures { λ r. ⌜ Made self (λ m. r ≡ heldTick (tickStep m word)) ⌝ }
+        ensures { λ r. ⌜ Reachable (r .controller) ⌝ }
     {
         if 16777215 < word {
             return TickAnswer {
@@ -262,6 +280,7 @@ impl Controller {
     pub fn positions(self) -> [Position; 5]
         requires { ⌜ Reachable self ⌝ }
         ensures { λ r. ⌜ Made self (λ m. r ≡ each (heldPosition m)) ⌝ }
+        ensures { λ r. ⌜ Made self (λ m. map positionOf r ≡ each (m .position)) ⌝ }
     {
         let hot = self.hot;
         let counters = hot.counters;

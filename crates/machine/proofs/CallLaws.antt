@@ -37,7 +37,7 @@ use Rattle.machine.specs.Shares.{whole}
 use Rattle.machine.specs.Ramp.{runs}
 use Rattle.machine.specs.Stops.{takes, cause, limitOrWatch, stops, stopping, marks, sensorActive, blocked}
 use Rattle.machine.specs.Starts.{startNumber, newMove, begun, notes, outside, final}
-use Rattle.machine.specs.Commands.{number, does, stores, setAxis, drops}
+use Rattle.machine.specs.Commands.{number, does, stores, setAxis, drops, keepsStart}
 use Rattle.machine.specs.Steps.{
   Outcome,
   refused,
@@ -348,7 +348,7 @@ called-accepted m b (C.Start k w) g e = when (stores m w) refl
 
     when : (t : Bool) → stores m w ≡ t
         → Called m (startLine k w) (cond t untried (began k)) false false (λ j. pos 0)
-        (withWatch (cond t (withPause (heardBy m b) (record { left = m .pause .left; waiting = start k }))
+        (withWatch (cond t (keepsStart (heardBy m b) k)
         (begun (heardBy m b) k)) 0)
     when true f = called-stored m _ k w g (record { next = refl; move = refl; position = refl })
     when false f =
@@ -582,7 +582,7 @@ called-run m l s a S P z lk st rn = record {
     neither p q = ap (λ (b : Bool). b || m .move .moving) p ∙ q
 
 pub called-tick : (m : Machine) (w : ℕ) → Good (m .move)
-    → Called m other (takesEffect m (tick w)) (stopsIn m (tick w)) true (sent m (tick w)) (after m (tick w))
+    → Called m other (takesEffect m (m .pause .waiting) (tick w)) (stopsIn m (tick w)) true (sent m (tick w)) (after m (tick w))
 called-tick m w g = when (tooLarge w)
   where
     goes : Called m other (tries (takes m w)) (cause (looks m w)) true (runs (stops (looks m w)) .pulse)
@@ -600,6 +600,6 @@ called-tick m w g = when (tooLarge w)
     when false = goes
 
 pub called : (m : Machine) (x : Call) → Good (m .move)
-    → Called m (lineOf m x) (takesEffect m x) (stopsIn m x) (isTick x) (sent m x) (after m x)
+    → Called m (lineOf m x) (takesEffect m (m .pause .waiting) x) (stopsIn m x) (isTick x) (sent m x) (after m x)
 called m (byte b buffer) g = called-byte m b buffer g
 called m (tick w) g = called-tick m w g

@@ -1,12 +1,12 @@
 -- Demand 3, for every list of calls: what each call does (CallLaws), summed up over the list. Assumes nothing.
-use Prim.Native.Nat.{ℕ, _+_, _<_}
+use Prim.Native.Nat.{ℕ, _+_, _≤_, _<_}
 use mathlib.Core.Bool.{Bool, true, false, cond, not, _&&_, _||_}
 use mathlib.Core.List.{List, [], _∷_}
 use mathlib.Core.Path.{_≡_, refl, sym, ap, subst, _∙_}
 use native.Mathlib.Omega.{arith}
 use borrow.Author.Tests.{not-true}
 use lib.IntN.{ℤ, pos, _+ℤ_}
-use Rattle.machine.specs.State.{Machine}
+use Rattle.machine.specs.State.{Machine, Waiting}
 use Rattle.machine.specs.Shares as shares
 use Rattle.laws.specs.Axes.{directed}
 use Rattle.machine.specs.Steps.{Tried, untried, failed, began}
@@ -25,6 +25,9 @@ use Rattle.machine.specs.Demand.{
   begins,
   atStart,
   isPulse,
+  storedAfter,
+  stored,
+  effect,
   lastDistance,
   lastMinus,
   started,
@@ -49,11 +52,13 @@ use Rattle.machine.proofs.BitLaws.{status-moving}
 use Rattle.machine.proofs.ShareLaws.{Share, share-none}
 use Rattle.machine.proofs.RunLaws.{Good, Whole, true-false, and-first}
 use Rattle.machine.proofs.CallLaws.{Called, called}
+use Rattle.machine.proofs.StoredLaws.{stored-next}
 use Rattle.machine.proofs.FitLaws.{fits}
 
 -- What a list leaves, against what is read off it.
 record Told (s : ℕ) (h : List Call) : Type 0 where
   good : Good (state s h .move)
+  waits : state s h .pause .waiting ≡ stored s h
   nextDistance : (k : ℕ) → state s h .next .distance k ≡ lastDistance s h k
   nextMinus : (k : ℕ) → state s h .next .minus k ≡ lastMinus s h k
   distances : (k : ℕ) → state s h .move .plan .distance k ≡ distance s h k
@@ -67,10 +72,24 @@ record Told (s : ℕ) (h : List Call) : Type 0 where
   rest : started s h ≡ true → state s h .move .moving ≡ false → stopBegun s h ≡ false
       → (k : ℕ) → k < 5 → state s h .move .travel k ≡ state s h .move .plan .distance k
 
+-- What a call does after the list, the start that it tries being the one that the list stored.
+abbrev Calls : ℕ → List Call → Call → Type 0
+Calls s h x =
+    Called (state s h) (lineOf (state s h) x) (effect s h x) (stopsIn (state s h) x) (isTick x) (sent (state s h) x)
+    (after (state s h) x)
+
+called-on : (s : ℕ) (h : List Call) (x : Call) → Told s h → Calls s h x
+called-on s h x t =
+    subst
+    (λ (w : Waiting). Called (state s h) (lineOf (state s h) x) (takesEffect (state s h) w x) (stopsIn (state s h) x)
+    (isTick x) (sent (state s h) x) (after (state s h) x))
+    (t .waits) (called (state s h) x (t .good))
+
 told-none : (s : ℕ) → Told s []
-unfolding state lastDistance lastMinus started distance minus master counted signed stopBegun goesOn
+unfolding state stored lastDistance lastMinus started distance minus master counted signed stopBegun goesOn
 told-none s = record {
   good = record { axis = λ k h. share-none 0 0 (omega arith); under = λ q. true-false false q refl };
+  waits = refl;
   nextDistance = λ k. refl;
   nextMinus = λ k. refl;
   distances = λ k. refl;
@@ -117,24 +136,24 @@ by-flag false f g = g refl
 
 -- A call after which the latest move does not run, though it did before or began in it, and no stop has begun in it.
 whole-end : (s : ℕ) (h : List Call) (x : Call) → Told s h
-    → begins (takesEffect (state s h) x) || state s h .move .moving ≡ true → after (state s h) x .move .moving ≡ false
-    → stopsIn (state s h) x || (not (begins (takesEffect (state s h) x)) && stopBegun s h) ≡ false
+    → begins (effect s h x) || state s h .move .moving ≡ true → after (state s h) x .move .moving ≡ false
+    → stopsIn (state s h) x || (not (begins (effect s h x)) && stopBegun s h) ≡ false
     → Whole (after (state s h) x .move) (sent (state s h) x)
 whole-end s h x t b e f = by-flag (isTick x)
     (λ i. c .ending i b e
-    (same-stop (stopsIn (state s h) x) (begins (takesEffect (state s h) x)) _ _
-    (λ n. t .stops (second-of (begins (takesEffect (state s h) x)) (state s h .move .moving) b n)) ∙ f))
+    (same-stop (stopsIn (state s h) x) (begins (effect s h x)) _ _
+    (λ n. t .stops (second-of (begins (effect s h x)) (state s h .move .moving) b n)) ∙ f))
     (λ i. true-false (after (state s h) x .move .moving)
     (c .goes ∙ (λ j. b j && (not (i j) || after (state s h) x .move .moving))) e)
   where
-    c : Called (state s h) (lineOf (state s h) x) (takesEffect (state s h) x) (stopsIn (state s h) x) (isTick x)
-        (sent (state s h) x) (after (state s h) x)
-    c = called (state s h) x (t .good)
+    c : Calls s h x
+    c = called-on s h x t
 
 told-next : (s : ℕ) (h : List Call) (x : Call) → Told s h → Told s (x ∷ h)
-unfolding state lastDistance lastMinus started distance minus master counted signed stopBegun goesOn
+unfolding state stored lastDistance lastMinus started distance minus master counted signed stopBegun goesOn
 told-next s h x t = record {
   good = c .good;
+  waits = stored-next (state s h) x ∙ ap (storedAfter (state s h) x) (t .waits);
   nextDistance = λ k. c .nextDistance k ∙ ap (λ (n : ℕ). distanceBy L k n) (t .nextDistance k);
   nextMinus = λ k. c .nextMinus k ∙ ap (λ (b : Bool). minusBy L k b) (t .nextMinus k);
   distances = λ k. c .distance k ∙ same-start S _ _ _ _ (λ j. t .nextDistance k) (t .distances k);
@@ -160,30 +179,29 @@ told-next s h x t = record {
     L = lineOf (state s h) x
 
     S : Tried
-    S = takesEffect (state s h) x
+    S = effect s h x
 
-    c : Called (state s h) (lineOf (state s h) x) (takesEffect (state s h) x) (stopsIn (state s h) x) (isTick x)
-        (sent (state s h) x) (after (state s h) x)
-    c = called (state s h) x (t .good)
+    c : Calls s h x
+    c = called-on s h x t
 
     stop : after (state s h) x .move .moving ≡ true
-        → stopsIn (state s h) x || (not (begins (takesEffect (state s h) x)) && state s h .move .stopping)
-        ≡ stopsIn (state s h) x || (not (begins (takesEffect (state s h) x)) && stopBegun s h)
-    stop q = same-stop (stopsIn (state s h) x) (begins (takesEffect (state s h) x)) _ _
-        (λ b. t .stops (second-of (begins (takesEffect (state s h) x)) (state s h .move .moving)
+        → stopsIn (state s h) x || (not (begins (effect s h x)) && state s h .move .stopping)
+        ≡ stopsIn (state s h) x || (not (begins (effect s h x)) && stopBegun s h)
+    stop q = same-stop (stopsIn (state s h) x) (begins (effect s h x)) _ _
+        (λ b. t .stops (second-of (begins (effect s h x)) (state s h .move .moving)
         (and-first _ _ (sym (c .goes) ∙ q)) b))
 
-    kept : begins (takesEffect (state s h) x) ≡ false → (k : ℕ)
+    kept : begins (effect s h x) ≡ false → (k : ℕ)
         → after (state s h) x .move .plan .distance k ≡ state s h .move .plan .distance k
-    kept b k = c .distance k ∙ old-start (takesEffect (state s h) x) _ _ b
+    kept b k = c .distance k ∙ old-start (effect s h x) _ _ b
 
-    size : begins (takesEffect (state s h) x) ≡ false
+    size : begins (effect s h x) ≡ false
         → shares.whole (after (state s h) x .move) ≡ shares.whole (state s h .move)
     size b = ap (λ (j : ℕ). after (state s h) x .move .plan .distance j)
-        (c .master ∙ old-start (takesEffect (state s h) x) _ _ b) ∙ kept b (state s h .move .master)
+        (c .master ∙ old-start (effect s h x) _ _ b) ∙ kept b (state s h .move .master)
 
-    unstopped : begins (takesEffect (state s h) x) ≡ false
-        → stopsIn (state s h) x || (not (begins (takesEffect (state s h) x)) && stopBegun s h) ≡ false → stopBegun s
+    unstopped : begins (effect s h x) ≡ false
+        → stopsIn (state s h) x || (not (begins (effect s h x)) && stopBegun s h) ≡ false → stopBegun s
         h ≡ false
     unstopped b f =
         let n = or-none (stopsIn (state s h) x) _ f in
@@ -211,9 +229,13 @@ module _ (s : ℕ) (h : List Call) (t : Told s h) where
       same-gone
       (t .good .axis k l))) in
       let p : 0 < whole s h = subst (λ (n : ℕ). 0 < n) same-whole (t .positive b) in
+      let f = fits s h .move in
       record {
         longest = a .short;
         positive = p;
+        within = subst (λ (n : ℕ). gone s h ≤ n) same-whole (subst (λ (n : ℕ). n ≤ shares.whole (state s h .move)) same-gone
+            (f .within (state s h .move .master) (f .master)));
+        most = subst (λ (d : ℕ). travel s h k ≤ d) (t .distances k) (f .within k l);
         notAhead = a .low;
         notBehind = a .high p;
         counts = t .counts k l;
@@ -223,7 +245,7 @@ answer-holds : (s : ℕ) (h : List Call) (k : ℕ) → k < 5 → Answer s h k
 unfolding latest state
 answer-holds s [] k l = record { single = omega arith; sign = λ q. absurd (omega arith) }
 answer-holds s (x ∷ h) k l =
-    let c = called (state s h) x (told s h .good) in
+    let c = called-on s h x (told s h) in
     record {
       single = c .single k l;
       sign = λ q. c .sign k l q ∙ ap (λ (b : Bool). directed b 1) (told s (x ∷ h) .minuses k);
@@ -240,9 +262,9 @@ ending-holds s (x ∷ h) k l e f =
     let t = told s h in
     let u = told s (x ∷ h) in
     let p = and-parts (isTick x) _ e in
-    let q = and-parts (begins (takesEffect (state s h) x) || goesOn s h) _ (p .1) in
+    let q = and-parts (begins (effect s h x) || goesOn s h) _ (p .1) in
     let w = whole-end s h x t
-    ((λ i. begins (takesEffect (state s h) x) || t .goes i) ∙ q .0)
+    ((λ i. begins (effect s h x) || t .goes i) ∙ q .0)
     (sym (status-moving (after (state s h) x)) ∙ not-true (moves (after (state s h) x)) (q .1)) f in
     record {
       full = sym (same-gone s (x ∷ h) u) ∙ (w .reached ∙ same-whole s (x ∷ h) u);
@@ -254,8 +276,13 @@ stays-holds : (s : ℕ) (h : List Call) (k : ℕ) → k < 5 → started s h ≡ 
     → travel s h k ≡ distance s h k
 stays-holds s h k l b g f = told s h .rest b (told s h .goes ∙ g) f k l ∙ told s h .distances k
 
+-- Each travel equals the pulses sent, also before any start.
+pub counts-hold : (s : ℕ) (h : List Call) (k : ℕ) → k < 5 → travel s h k ≡ counted s h k
+counts-hold s h k l = told s h .counts k l
+
 pub demand-3 : Demand3
 demand-3 s h k l = record {
+  waits = told s h .waits;
   shares = shares-hold s h (told s h) k l;
   sums = told s h .sums k;
   within = fits s h .places .inside k l;

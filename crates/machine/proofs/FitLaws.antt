@@ -55,7 +55,7 @@ use Rattle.machine.specs.Ramp.{
 }
 use Rattle.machine.specs.Stops.{takes, cause, stops, stopping, marks}
 use Rattle.machine.specs.Starts.{startNumber, begun, notes, outside}
-use Rattle.machine.specs.Commands.{number, does, stores, drops}
+use Rattle.machine.specs.Commands.{number, does, stores, drops, keepsStart}
 use Rattle.machine.specs.Steps.{
   powerOn,
   Outcome,
@@ -464,7 +464,7 @@ fits-does m b (C.Start k w) f h e = when (stores m w) refl
     p11 = passed (m .move .moving && true) 11 _ (omega arith) e
 
     when : (t : Bool) → stores m w ≡ t
-        → Fits (withWatch (cond t (withPause (heardBy m b) (record { left = m .pause .left; waiting = start k }))
+        → Fits (withWatch (cond t (keepsStart (heardBy m b) k)
         (begun (heardBy m b) k)) 0)
     when true q = record {
       settings = f .settings;

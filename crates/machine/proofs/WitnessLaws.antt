@@ -1,4 +1,4 @@
--- The list of calls in specs/Witness.antt is what that file says, by computation. Assumes nothing.
+-- The lists of calls in specs/Witness.antt are what that file says, by computation. Assumes nothing.
 use mathlib.Core.Path.{refl}
 use Rattle.digits.specs.Digits.{numberOf}
 use Rattle.line.specs.Line.{judgeOf, judgeForm}
@@ -6,22 +6,24 @@ use Rattle.machine.specs.Calls.{state}
 use Rattle.machine.specs.Demand.{
   lastDistance,
   lastMinus,
+  stored,
   started,
   ends,
   goesOn,
   stopBegun,
   distance,
   minus,
+  master,
   counted,
   signed,
   latest,
 }
-use Rattle.machine.specs.Witness.{begun, ordered, stopped, again, finished, Witness}
+use Rattle.machine.specs.Witness.{begun, ordered, stopped, again, finished, dwelling, waiting, due, early, Witness}
 
 pub witness : Witness
 unfolding
-    numberOf judgeOf judgeForm state lastDistance lastMinus started ends goesOn stopBegun distance minus counted signed
-    latest begun ordered stopped again finished
+    numberOf judgeOf judgeForm state lastDistance lastMinus stored started ends goesOn stopBegun distance minus master
+    counted signed latest begun ordered stopped again finished dwelling waiting due early
 witness = record {
   resting = refl;
   starts = refl;
@@ -35,4 +37,16 @@ witness = record {
   sums = refl;
   distances = refl;
   directions = refl;
+  dwells = refl;
+  replaces = refl;
+  waits = refl;
+  before = refl;
+  begins = refl;
+  named = refl;
+  tried = refl;
+  passes = refl;
+  fails = refl;
+  rests = refl;
+  keeps = refl;
+  dropped = refl;
 }

@@ -177,9 +177,11 @@ resets m = withFlags (withPosition m (λ k. pos 0)) (record {
 })
 
 -- A start that is stored waits (a later one replaces it); any other begins a move.
+abbrev pub keepsStart : Machine → ℕ → Machine
+keepsStart m k = withPause m (record { left = m .pause .left; waiting = start k })
+
 abbrev pub obeysStart : Machine → ℕ → Bool → Machine
-obeysStart m k waits =
-    cond (stores m waits) (withPause m (record { left = m .pause .left; waiting = start k })) (begun m k)
+obeysStart m k waits = cond (stores m waits) (keepsStart m k) (begun m k)
 
 -- What an accepted command does.
 abbrev pub does : Machine → Command → Machine

@@ -1,9 +1,9 @@
 -- Paper 01, "The list of demand 3", and demand 3 itself: one claim about every list of calls from power-on.
 --
 -- Which lines are accepted, when starts take effect and when stops begin is what the machine of paper 01 does on the
--- list (`outcome`, `takesEffect`, `stopsIn`). Distances, directions and masters are read off the accepted lines,
--- pulses off the answers of ticks; no counter is kept beside them. `travel` and `position` are the figures that the
--- replies to Q 0-4 and q 0-4 are made from.
+-- list (`outcome`, `takesEffect`, `stopsIn`). Distances, directions, stored starts and masters are read off the accepted
+-- lines, pulses off the answers of ticks; no counter is kept beside them. `travel` and `position` are the figures that
+-- the replies to Q 0-4 and q 0-4 are made from.
 use Prim.Native.Nat.{ℕ, _+_, _*_, _≤_, _<_}
 use mathlib.Core.Bool.{Bool, true, false, cond, not, _&&_, _||_}
 use mathlib.Core.List.{List, [], _∷_}
@@ -12,7 +12,7 @@ use lib.Dec.{eqb}
 use lib.IntN.{ℤ, pos, _+ℤ_, natAbs}
 use Rattle.line.specs.declared.Command.{Command}
 use Rattle.line.specs.declared.Command.the-variants as C
-use Rattle.machine.specs.State.{Machine}
+use Rattle.machine.specs.State.{Machine, Waiting, none, start}
 use Rattle.laws.specs.Axes.{directed}
 use Rattle.laws.specs.Bits.{bit, weight}
 use Rattle.machine.specs.Stops.{takes, cause, status}
@@ -30,7 +30,8 @@ use Rattle.machine.specs.Steps.{
   untried,
   failed,
   began,
-  tries,
+  runsOut,
+  triesFor,
   looks,
   tooLarge,
   tickStep,
@@ -86,10 +87,24 @@ startBy m (startLine k waits) = cond (stores m waits) untried (began k)
 startBy m stopOrder = untried
 startBy m resetOrder = untried
 
--- A stored start takes effect in the tick that tries it, if no number turns it away.
-abbrev pub takesEffect : Machine → Call → Tried
-takesEffect m (byte b buffer) = startBy m (roleBy (outcome m b buffer))
-takesEffect m (tick w) = cond (tooLarge w) untried (tries (takes m w))
+-- A stored start, w, takes effect in the tick that tries it, if no number turns it away.
+abbrev pub takesEffect : Machine → Waiting → Call → Tried
+takesEffect m w (byte b buffer) = startBy m (roleBy (outcome m b buffer))
+takesEffect m w (tick word) = cond (tooLarge word) untried (triesFor (takes m word) w)
+
+-- The stored start after a line, w being the one before: a start after the dwell is stored if a dwell runs, and a later
+-- one replaces it; a plain start that takes effect drops it, and so does order 9.
+abbrev pub storedBy : Machine → Role → Waiting → Waiting
+storedBy m other w = w
+storedBy m (distanceLine k s d) w = w
+storedBy m (startLine k waits) w = cond (stores m waits) (start k) none
+storedBy m stopOrder w = none
+storedBy m resetOrder w = w
+
+-- The stored start after a call: one that is tried as the dwell runs out is dropped, begun or not.
+abbrev pub storedAfter : Machine → Call → Waiting → Waiting
+storedAfter m (byte b buffer) w = storedBy m (roleBy (outcome m b buffer)) w
+storedAfter m (tick word) w = cond (tooLarge word) w (cond (runsOut (takes m word)) none w)
 
 -- Status bit 1.
 abbrev pub moves : Machine → Bool
@@ -162,24 +177,33 @@ unfoldable pub lastMinus : ℕ → List Call → ℕ → Bool
 lastMinus s [] k = false
 lastMinus s (x ∷ h) k = minusBy (lineOf (state s h) x) k (lastMinus s h k)
 
+-- The start that waits for the end of the dwell: the last start line that was stored, unless it is gone.
+unfoldable pub stored : ℕ → List Call → Waiting
+stored s [] = none
+stored s (x ∷ h) = storedAfter (state s h) x (stored s h)
+
+-- The start that takes effect in a call x after the list, if one does.
+abbrev pub effect : ℕ → List Call → Call → Tried
+effect s h x = takesEffect (state s h) (stored s h) x
+
 -- Whether a start has taken effect. That begins a move, the latest until another start takes effect.
 unfoldable pub started : ℕ → List Call → Bool
 started s [] = false
-started s (x ∷ h) = begins (takesEffect (state s h) x) || started s h
+started s (x ∷ h) = begins (effect s h x) || started s h
 
 -- The latest move's distances and directions: those of each axis's last accepted distance line before its start.
 unfoldable pub distance : ℕ → List Call → ℕ → ℕ
 distance s [] k = 0
-distance s (x ∷ h) k = atStart (takesEffect (state s h) x) (λ j. lastDistance s h k) (distance s h k)
+distance s (x ∷ h) k = atStart (effect s h x) (λ j. lastDistance s h k) (distance s h k)
 
 unfoldable pub minus : ℕ → List Call → ℕ → Bool
 minus s [] k = false
-minus s (x ∷ h) k = atStart (takesEffect (state s h) x) (λ j. lastMinus s h k) (minus s h k)
+minus s (x ∷ h) k = atStart (effect s h x) (λ j. lastMinus s h k) (minus s h k)
 
 -- The master named in the latest move's start.
 unfoldable pub master : ℕ → List Call → ℕ
 master s [] = 0
-master s (x ∷ h) = atStart (takesEffect (state s h) x) (λ j. j) (master s h)
+master s (x ∷ h) = atStart (effect s h x) (λ j. j) (master s h)
 
 -- The answers that are not 0 of all ticks since the latest move's start took effect, for a stored start that very tick
 -- included.
@@ -188,7 +212,7 @@ isPulse z = weight (not (eqb (natAbs z) 0)) 1
 
 unfoldable pub counted : ℕ → List Call → ℕ → ℕ
 counted s [] k = 0
-counted s (x ∷ h) k = cond (begins (takesEffect (state s h) x)) 0 (counted s h k) + isPulse (sent (state s h) x k)
+counted s (x ∷ h) k = cond (begins (effect s h x)) 0 (counted s h k) + isPulse (sent (state s h) x k)
 
 -- Signed pulses are the sum of the answers, since power-on or the last accepted position reset.
 unfoldable pub signed : ℕ → List Call → ℕ → ℤ
@@ -199,19 +223,19 @@ signed s (x ∷ h) k = cond (resetBy (lineOf (state s h) x)) (pos 0) (signed s h
 unfoldable pub stopBegun : ℕ → List Call → Bool
 stopBegun s [] = false
 stopBegun s (x ∷ h) =
-    stopsIn (state s h) x || (not (begins (takesEffect (state s h) x)) && stopBegun s h)
+    stopsIn (state s h) x || (not (begins (effect s h x)) && stopBegun s h)
 
 -- Whether the latest move has not ended: no tick that counts for its pulses has left status bit 1 at 0.
 unfoldable pub goesOn : ℕ → List Call → Bool
 goesOn s [] = false
 goesOn s (x ∷ h) =
-    (begins (takesEffect (state s h) x) || goesOn s h) && (not (isTick x) || moves (state s (x ∷ h)))
+    (begins (effect s h x) || goesOn s h) && (not (isTick x) || moves (state s (x ∷ h)))
 
 -- A move ends in the first tick that counts for its pulses and after which status bit 1 is 0.
 unfoldable pub ends : ℕ → List Call → Bool
 ends s [] = false
 ends s (x ∷ h) =
-    isTick x && ((begins (takesEffect (state s h) x) || goesOn s h) && not (moves (state s (x ∷ h))))
+    isTick x && ((begins (effect s h x) || goesOn s h) && not (moves (state s (x ∷ h))))
 
 -- What the latest call answers for an axis.
 unfoldable pub latest : ℕ → List Call → ℕ → ℤ
@@ -233,11 +257,13 @@ whole s h = distance s h (master s h)
 
 -- ---- Demand 3
 
--- Once a start has taken effect: t × M ≤ m × d < (t + 1) × M, with d ≤ M and M > 0; and each travel equals the pulses
--- that pump has sent in that move.
+-- Once a start has taken effect: t × M ≤ m × d < (t + 1) × M, with d ≤ M and M > 0; m ≤ M, and so t ≤ d; and each
+-- travel equals the pulses that pump has sent in that move.
 pub record ShareLaw (s : ℕ) (h : List Call) (k : ℕ) : Type 0 where
   pub longest : distance s h k ≤ whole s h
   pub positive : 0 < whole s h
+  pub within : gone s h ≤ whole s h
+  pub most : travel s h k ≤ distance s h k
   pub notAhead : travel s h k * whole s h ≤ gone s h * distance s h k
   pub notBehind : gone s h * distance s h k < (travel s h k + 1) * whole s h
   pub counts : travel s h k ≡ counted s h k
@@ -255,6 +281,8 @@ pub record Ended (s : ℕ) (h : List Call) (k : ℕ) : Type 0 where
   pub last : 0 < distance s h k → natAbs (latest s h k) ≡ 1
 
 pub record Holds (s : ℕ) (h : List Call) (k : ℕ) : Type 0 where
+  -- the start that the machine has waiting is the one stored by the list's lines
+  pub waits : state s h .pause .waiting ≡ stored s h
   pub shares : started s h ≡ true → ShareLaw s h k
   pub sums : position s h k ≡ signed s h k
   pub within : outside (position s h k) ≡ false

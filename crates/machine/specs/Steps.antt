@@ -131,9 +131,16 @@ abbrev pub tryWaiting : Machine → Waiting → Tried
 tryWaiting m none = untried
 tryWaiting m (start k) = tryStart m k
 
--- The dwell is counted down; when it becomes 0, from 1, a waiting start is tried.
+-- The dwell is counted down; it becomes 0, from 1.
+abbrev pub runsOut : Machine → Bool
+runsOut m = eqb (m .pause .left) 1
+
+-- When it does, a waiting start is tried.
+abbrev pub triesFor : Machine → Waiting → Tried
+triesFor m w = cond (runsOut m) (tryWaiting m w) untried
+
 abbrev pub tries : Machine → Tried
-tries m = cond (eqb (m .pause .left) 1) (tryWaiting m (m .pause .waiting)) untried
+tries m = triesFor m (m .pause .waiting)
 
 abbrev pub counts : Machine → Machine
 counts m = withPause m (record { left = m .pause .left - 1; waiting = m .pause .waiting })

@@ -1,5 +1,6 @@
--- One list of calls to which demand 3 has something to say: a start takes effect, its move is stopped by order 9 at a
--- crooked pulse, and another runs to its end. Distances 5, 2 and minus 3, master 0, switch 0.
+-- Lists of calls to which demand 3 has something to say. One: a start takes effect, its move is stopped by order 9 at a
+-- crooked pulse, and another runs to its end. Distances 5, 2 and minus 3, master 0, switch 0. Another, with a dwell of
+-- 1 ms: a start stored in the dwell begins with the master that it names, and one fails as its dwell runs out.
 use Prim.Native.Nat.{ℕ, zero, suc}
 use Prim.Native.String.{String}
 use mathlib.Core.Bool.{Bool, true, false}
@@ -7,14 +8,18 @@ use mathlib.Core.List.{List, [], _∷_}
 use mathlib.Core.Path.{_≡_}
 use lib.IntN.{ℤ, pos, negsuc}
 use Rattle.laws.specs.Axes.{each}
-use Rattle.machine.specs.Calls.{Call, byte, tick}
+use Rattle.machine.specs.State.{none, start}
+use Rattle.machine.specs.Steps.{tickStep}
+use Rattle.machine.specs.Calls.{Call, byte, tick, state}
 use Rattle.machine.specs.Demand.{
+  stored,
   started,
   ends,
   goesOn,
   stopBegun,
   distance,
   minus,
+  master,
   travel,
   counted,
   position,
@@ -63,6 +68,27 @@ unfoldable pub finished : List Call
 unfolding again
 finished = ticks 480 again
 
+-- A move of one pulse that axis 2 makes as master, ended in its 207th tick, with a dwell of 1 ms; then a start with
+-- master 2 is stored (Q08A), and one with master 1 (Q089), which replaces it.
+unfoldable pub dwelling : List Call
+dwelling =
+    ticks 207
+    (line "Q082" (line "P0A00001" (line "P0900FFF" (line "P08F4240" (line "P0280001" [])))))
+
+unfoldable pub waiting : List Call
+unfolding dwelling
+waiting = line "Q089" (line "Q08A" dwelling)
+
+-- The distances that the stored start is to find: axis 1 is as long as axis 2 in the one list, shorter in the other. The
+-- dwell runs out in its 250th tick.
+unfoldable pub due : List Call
+unfolding waiting
+due = ticks 249 (line "P0100001" waiting)
+
+unfoldable pub early : List Call
+unfolding waiting
+early = ticks 249 waiting
+
 -- ---- What demand 3 reads off a list
 
 -- Whether a start has taken effect, the latest move goes on, a stop has begun in it, and it ends in the latest call.
@@ -87,6 +113,10 @@ figuresOf h = record {
   counted = each (counted 0 h);
   latest = each (latest 0 h);
 }
+
+-- The number that a tick after the list answers: that of a waiting start that failed, or 0.
+abbrev pub toldBy : List Call → ℕ
+toldBy h = tickStep (state 0 h) 0 .number
 
 pub record Witness : Type 0 where
   -- no start has taken effect before the line that starts, and one has with it
@@ -115,3 +145,17 @@ pub record Witness : Type 0 where
   -- distances and directions are those of the distance lines
   pub distances : each (distance 0 finished) ≡ 5 ∷ 2 ∷ 3 ∷ 0 ∷ 0 ∷ []
   pub directions : each (minus 0 finished) ≡ false ∷ false ∷ true ∷ false ∷ false ∷ []
+  -- the later of two starts stored in a dwell waits until its last tick, and there begins with the master that it names
+  pub dwells : phaseOf dwelling ≡ record { started = true; goesOn = false; stopBegun = false; ends = true }
+  pub replaces : stored 0 waiting ≡ start 1
+  pub waits : stored 0 due ≡ start 1
+  pub before : phaseOf due ≡ record { started = true; goesOn = false; stopBegun = false; ends = false }
+  pub begins : phaseOf (tick 0 ∷ due) ≡ record { started = true; goesOn = true; stopBegun = false; ends = false }
+  pub named : master 0 (tick 0 ∷ due) ≡ 1
+  pub tried : stored 0 (tick 0 ∷ due) ≡ none
+  pub passes : toldBy due ≡ 0
+  -- with an axis longer than that master it fails there with 14 and is dropped, and no move begins
+  pub fails : toldBy early ≡ 14
+  pub rests : phaseOf (tick 0 ∷ early) ≡ record { started = true; goesOn = false; stopBegun = false; ends = false }
+  pub keeps : master 0 (tick 0 ∷ early) ≡ 2
+  pub dropped : stored 0 (tick 0 ∷ early) ≡ none

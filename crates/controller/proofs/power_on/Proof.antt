@@ -1,12 +1,27 @@
 -- `power_on` meets its contract: each return, by the tests and the answers that led there. Assumes nothing.
 use borrow.Author.Needs.{needs}
-use mathlib.Core.Path.{sym, _∙_}
+use Prim.Native.Nat.{ℕ}
+use mathlib.Core.Path.{_≡_, sym, _∙_}
+use Rattle.machine.specs.Demand.{Demand3}
+use Rattle.machine.specs.Marked.{Marked}
+use Rattle.machine.specs.Witness.{Witness}
 use Rattle.machine.proofs.DemandLaws.{demand-3}
 use Rattle.machine.proofs.MarkedLaws.{marked}
 use Rattle.machine.proofs.WitnessLaws.{witness}
+use Rattle.controller.specs.declared.PowerOn.{PowerOn}
+use Rattle.controller.specs.Held.{heldPower}
+use Rattle.controller.specs.Reach.{Reachable}
+use Rattle.controller.specs.Answers.{Demand3Answers}
 use Rattle.controller.proofs.EntryLaws.{power-bad, power-good}
+use Rattle.controller.proofs.ReachLaws.{reach-power}
+use Rattle.controller.proofs.AnswerLaws.{demand-3-answers}
 use Rattle.controller.proofs.power_on.Statement.{statement}
 use Rattle.controller.proofs.power_on.Tie as tie
+
+-- What power-on promises, given its answer.
+powered : (s : ℕ) (r : PowerOn) → r ≡ heldPower s
+    → (r ≡ heldPower s) × (Demand3 × (Marked × (Witness × (Demand3Answers × Reachable (r .controller)))))
+powered s r e = (e, (demand-3, (marked, (witness, (demand-3-answers, reach-power s r e)))))
 
 is-bad-requires : tie.Need-is-bad-requires
 is-bad-requires c κs = search needs
@@ -15,21 +30,17 @@ fresh-requires : tie.Need-fresh-requires
 fresh-requires c κs = search needs
 
 returns : tie.Need-returns
-returns c = (
-  power-bad (c .before .before .before .args .switch) _
-      (sym (c .before .before .is-bad .ensures) ∙ c .before .if1 .taken) (c .fresh .ensures),
-  (demand-3, (marked, witness)),
-)
+returns c = powered (c .before .before .before .args .switch) _
+    (power-bad (c .before .before .before .args .switch) _
+    (sym (c .before .before .is-bad .ensures) ∙ c .before .if1 .taken) (c .fresh .ensures))
 
 fresh-requires-2 : tie.Need-fresh-requires-2
 fresh-requires-2 c κs = search needs
 
 returns-2 : tie.Need-returns-2
-returns-2 c = (
-  power-good (c .before .before .before .args .switch) _
-      (sym (c .before .before .is-bad .ensures) ∙ c .before .if1 .left) (c .fresh2 .ensures),
-  (demand-3, (marked, witness)),
-)
+returns-2 c = powered (c .before .before .before .args .switch) _
+    (power-good (c .before .before .before .args .switch) _
+    (sym (c .before .before .is-bad .ensures) ∙ c .before .if1 .left) (c .fresh2 .ensures))
 
 pub power-on-spec : {M : Type 1} → statement M
 power-on-spec =

@@ -12,15 +12,15 @@ use Rattle.controller.proofs.EntryLaws.{
   byte-gathered,
   byte-lined,
 }
+use Rattle.controller.proofs.ReachLaws.{byte-answers}
 use Rattle.controller.proofs.Controller.byte.Statement.{statement}
 use Rattle.controller.proofs.Controller.byte.Tie as tie
 
 returns : tie.Need-returns
 returns c =
-    let q = c .before .before in (
-      λ s h e. byte-short (state s h) (q .args .b) (now (q .args .buf)) (fits s h) (q .args .self) e (c .if1 .taken) .0,
-      λ s h e. byte-short (state s h) (q .args .b) (now (q .args .buf)) (fits s h) (q .args .self) e (c .if1 .taken) .1,
-    )
+    let q = c .before .before in
+    byte-answers (q .args .self) (q .pre) (q .args .b) (now (q .args .buf)) _ _
+    (λ s h e. byte-short (state s h) (q .args .b) (now (q .args .buf)) (fits s h) (q .args .self) e (c .if1 .taken))
 
 take-requires : tie.Need-take-requires
 take-requires c κs = search needs
@@ -53,40 +53,28 @@ lined-requires c κs =
 
 returns-2 : tie.Need-returns-2
 returns-2 c =
-    let q = c .before .before .before .before .before .before .before .before .before in (
-      λ s h e. byte-gathered (state s h) (q .args .b) (now (q .args .buf)) (fits s h) (q .args .self) e
-          (c .before .before .before .before .before .before .before .if1 .left) _
-          (c .before .before .before .before .take .ensures .1 (state s h .line)
-          (ap (λ (x : Controller). x .cold .line) e)) _ (c .before .before .with-line .ensures)
-          (c .enum-told .given .1) .0,
-      λ s h e. byte-gathered (state s h) (q .args .b) (now (q .args .buf)) (fits s h) (q .args .self) e
-          (c .before .before .before .before .before .before .before .if1 .left) _
-          (c .before .before .before .before .take .ensures .1 (state s h .line)
-          (ap (λ (x : Controller). x .cold .line) e)) _ (c .before .before .with-line .ensures)
-          (c .enum-told .given .1) .1,
-    )
+    let q = c .before .before .before .before .before .before .before .before .before in
+    byte-answers (q .args .self) (q .pre) (q .args .b) (now (q .args .buf)) _ _
+    (λ s h e. byte-gathered (state s h) (q .args .b) (now (q .args .buf)) (fits s h) (q .args .self) e
+    (c .before .before .before .before .before .before .before .if1 .left) _
+    (c .before .before .before .before .take .ensures .1 (state s h .line)
+    (ap (λ (x : Controller). x .cold .line) e)) _ (c .before .before .with-line .ensures)
+    (c .enum-told .given .1))
 
 same-length : tie.Need-same-length
 same-length c = search needs
 
 returns-3 : tie.Need-returns-3
 returns-3 c =
-    let q = c .before .before .before .before .before .before .before .before .before .before .before .before .before .before in (
-      λ s h e. byte-lined (state s h) (q .args .b) (now (q .args .buf)) (fits s h) (q .args .self) e
-          (c .before .before .before .before .before .before .before .before .before .before .before .before .if1 .left)
-          _ (c .before .before .before .before .before .before .before .before .before .take .ensures .1
-          (state s h .line) (ap (λ (x : Controller). x .cold .line) e)) _
-          (c .before .before .before .before .before .before .before .with-line .ensures) _ _ _ _ _
-          (c .before .before .before .before .before .heard .given .1) (c .before .before .lined .ensures .0)
-          (c .before .before .lined .ensures .1) .0,
-      λ s h e. byte-lined (state s h) (q .args .b) (now (q .args .buf)) (fits s h) (q .args .self) e
-          (c .before .before .before .before .before .before .before .before .before .before .before .before .if1 .left)
-          _ (c .before .before .before .before .before .before .before .before .before .take .ensures .1
-          (state s h .line) (ap (λ (x : Controller). x .cold .line) e)) _
-          (c .before .before .before .before .before .before .before .with-line .ensures) _ _ _ _ _
-          (c .before .before .before .before .before .heard .given .1) (c .before .before .lined .ensures .0)
-          (c .before .before .lined .ensures .1) .1,
-    )
+    let t = c .before .before .before .before .before .before .before .before .before in
+    let q = t .before .before .before .before .before in
+    byte-answers (q .args .self) (q .pre) (q .args .b) (now (q .args .buf)) _ _
+    (λ s h e. byte-lined (state s h) (q .args .b) (now (q .args .buf)) (fits s h) (q .args .self) e
+    (t .before .before .before .if1 .left)
+    _ (t .take .ensures .1 (state s h .line) (ap (λ (x : Controller). x .cold .line) e)) _
+    (c .before .before .before .before .before .before .before .with-line .ensures) _ _ _ _ _
+    (c .before .before .before .before .before .heard .given .1) (c .before .before .lined .ensures .0)
+    (c .before .before .lined .ensures .1))
 
 pub byte-spec : {M : Type 1} → statement M
 byte-spec =

@@ -13,12 +13,15 @@ use Rattle.controller.proofs.EntryLaws.{
   tick-is,
   tick-refused,
 }
+use Rattle.controller.proofs.ReachLaws.{tick-answers}
 use Rattle.controller.proofs.Controller.tick.Statement.{statement}
 use Rattle.controller.proofs.Controller.tick.Tie as tie
 
 returns : tie.Need-returns
 returns c =
-    λ s h e. tick-refused (state s h) (c .before .args .word) (fits s h) (c .before .args .self) e (c .if1 .taken)
+    let q = c .before in
+    tick-answers (q .args .self) (q .pre) (q .args .word) _
+    (λ s h e. tick-refused (state s h) (q .args .word) (fits s h) (q .args .self) e (c .if1 .taken))
 
 takes-requires : tie.Need-takes-requires
 takes-requires c κs = search needs
@@ -71,12 +74,13 @@ returns-2 c =
     let t = w .before in
     let g = t .before .before .before .before .before in
     let q = g .before in
-    λ s h e.
+    tick-answers (q .args .self) (q .pre) (q .args .word) _
+    (λ s h e.
     let et = took (state s h) (q .args .word) (fits s h) (q .args .self) e _ (t .takes .ensures) in
     let ew = waited-is (state s h) (q .args .word) (fits s h) (q .args .self) e _ _ et (w .waits .ensures) in
     let es = stop-is (state s h) (q .args .word) (fits s h) (q .args .self) e _ _ ew (p .stops .ensures) in
     let er = run-was (state s h) (q .args .word) (fits s h) (q .args .self) e _ _ es (v .runs .ensures) in
-    tick-is (state s h) (q .args .word) (fits s h) (q .args .self) e _ _ _ (g .if1 .left) ew er (z .rest .ensures)
+    tick-is (state s h) (q .args .word) (fits s h) (q .args .self) e _ _ _ (g .if1 .left) ew er (z .rest .ensures))
 
 pub tick-spec : {M : Type 1} → statement M
 tick-spec =

@@ -1,0 +1,99 @@
+-- Demand 3 over the code's own calls (specs/Answers.antt): the controller after a list of answered calls is held of the
+-- machine after those calls, so that what Demand3 says of the machine's list holds of the answers. Assumes nothing.
+use Prim.Native.Nat.{ℕ, _+_, _<_}
+use native.Mathlib.Omega.{arith}
+use mathlib.Core.Bool.{cond}
+use mathlib.Core.List.{List, [], _∷_, map}
+use mathlib.Core.Path.{_≡_, refl, sym, ap, _∙_}
+use lib.IntN.{ℤ, pos, _+ℤ_}
+use lib.ListN.{getD}
+use Rattle.laws.specs.Axes.{each}
+use Rattle.reply.specs.declared.Travel.{Travel}
+use Rattle.reply.specs.declared.Position.{Position}
+use Rattle.reply.specs.Reply.{positionOf}
+use Rattle.machine.specs.State.{Machine}
+use Rattle.machine.specs.Replies as replies
+use Rattle.machine.specs.Steps.{tickStep}
+use Rattle.machine.specs.Calls.{Call, state}
+use Rattle.machine.specs.Demand.{effect, begins, isPulse, lineOf, resetBy, sent, counted, signed}
+use Rattle.machine.proofs.DemandLaws.{demand-3, counts-hold}
+use Rattle.controller.specs.declared.PowerOn.{PowerOn}
+use Rattle.controller.specs.declared.TickAnswer.{TickAnswer}
+use Rattle.controller.specs.Held.{held, heldTravel, heldPosition}
+use Rattle.controller.specs.Answers.{
+  Answered,
+  byte,
+  tick,
+  last,
+  Follows,
+  callOf,
+  callsOf,
+  pulseIn,
+  countIn,
+  sumIn,
+  HoldsOf,
+  Demand3Answers,
+}
+use Rattle.controller.proofs.TickLaws.{each-at}
+use Rattle.controller.proofs.ByteLaws.{unbiased}
+use Rattle.controller.proofs.ReachLaws.{after-power, after-byte, after-tick}
+
+last-held : (s : ℕ) (p : PowerOn) (l : List Answered) → Follows s p l → held (state s (callsOf l)) ≡ last p l
+last-held s p [] f = after-power s p f
+last-held s p (byte b entry exit r ∷ l) f =
+    after-byte (last p l) s (callsOf l) (last-held s p l (f .0)) b entry r (f .1 .0)
+last-held s p (tick w r ∷ l) f = after-tick (last p l) s (callsOf l) (last-held s p l (f .0)) w r (f .1 .0)
+
+-- The pulses of an answer are those of the machine.
+pulse-held : (s : ℕ) (p : PowerOn) (x : Answered) (l : List Answered) → Follows s p (x ∷ l) → (k : ℕ) → k < 5
+    → pulseIn x k ≡ sent (state s (callsOf l)) (callOf x) k
+pulse-held s p (byte b entry exit r) l f k h = refl
+pulse-held s p (tick w r) l f k h =
+    ap (λ (a : TickAnswer). getD (a .pulses) k (pos 0)) (f .1 .0 s (callsOf l) (last-held s p l (f .0)))
+    ∙ each-at (tickStep (state s (callsOf l)) w .pulse) (pos 0) k h
+
+count-held : (s : ℕ) (p : PowerOn) (l : List Answered) → Follows s p l → (k : ℕ) → k < 5
+    → countIn s l k ≡ counted s (callsOf l) k
+unfolding countIn counted
+count-held s p [] f k h = refl
+count-held s p (x ∷ l) f k h =
+    λ i. cond (begins (effect s (callsOf l) (callOf x))) 0 (count-held s p l (f .0) k h i)
+    + isPulse (pulse-held s p x l f k h i)
+
+sum-held : (s : ℕ) (p : PowerOn) (l : List Answered) → Follows s p l → (k : ℕ) → k < 5
+    → sumIn s l k ≡ signed s (callsOf l) k
+unfolding sumIn signed
+sum-held s p [] f k h = refl
+sum-held s p (x ∷ l) f k h =
+    λ i. cond (resetBy (lineOf (state s (callsOf l)) (callOf x))) (pos 0)
+    (sum-held s p l (f .0) k h i +ℤ pulse-held s p x l f k h i)
+
+each-same : {A : Type 0} (f g : ℕ → A) → ((k : ℕ) → k < 5 → f k ≡ g k) → each f ≡ each g
+each-same f g p =
+    λ i. p 0 (omega arith) i ∷ p 1 (omega arith) i ∷ p 2 (omega arith) i ∷ p 3 (omega arith) i ∷ p 4 (omega arith) i
+    ∷ []
+
+-- The held positions, read as signed numbers, are the machine's.
+pub positions-signed : (s : ℕ) (h : List Call) → map positionOf (each (heldPosition (state s h))) ≡ each (state s h .position)
+positions-signed s h =
+    each-same (λ k. positionOf (heldPosition (state s h) k)) (state s h .position)
+    (λ k l. unbiased (state s h .position k) (demand-3 s h k l .within))
+
+pub demand-3-answers : Demand3Answers
+demand-3-answers s p l f = record {
+  goesOn = record { switch = s; history = callsOf l; made = e };
+  holds = λ k h. demand-3 s (callsOf l) k h;
+  travels = λ ts q. ap (map (λ (t : Travel). t .0)) (q s (callsOf l) e)
+      ∙ each-same (replies.travelOf m) (countIn s l)
+      (λ k h. counts-hold s (callsOf l) k h ∙ sym (count-held s p l f k h));
+  positions = λ ps q. ap (map positionOf) (q s (callsOf l) e)
+      ∙ (positions-signed s (callsOf l)
+      ∙ each-same (m .position) (sumIn s l)
+      (λ k h. demand-3 s (callsOf l) k h .sums ∙ sym (sum-held s p l f k h)));
+}
+  where
+    m : Machine
+    m = state s (callsOf l)
+
+    e : held (state s (callsOf l)) ≡ last p l
+    e = last-held s p l f

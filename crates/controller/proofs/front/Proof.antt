@@ -1,0 +1,16 @@
+-- `front` meets its contract: the front part, which is the reply of the byte that answered the length. Assumes nothing.
+use borrow.Author.Needs.{needs}
+use denote.Ref.{now}
+use Rattle.controller.proofs.FrontLaws.{reply-in}
+use Rattle.controller.proofs.front.Statement.{statement}
+use Rattle.controller.proofs.front.Tie as tie
+
+front-requires : tie.Need-front-requires
+front-requires c κs = search needs
+
+returns : tie.Need-returns
+returns c =
+    (c .front .ensures, reply-in (now (c .before .before .args .buf)) (c .before .before .args .n) _ (c .front .ensures))
+
+pub front-spec : {M : Type 1} → statement M
+front-spec = tie.close (tie.spec front-requires returns)

@@ -1,0 +1,113 @@
+-- Demand 3 over the code's own calls: a power-on answer and any list of calls of `byte` and `tick` with what they were
+-- lent and what they answered, each given the controller that the one before it left, each answer as its contract
+-- promises. The sums run over the `pulses` of the answers. The list is the latest call first, as in Demand.antt.
+use Prim.Native.Nat.{ℕ, _+_, _<_}
+use mathlib.Core.Bool.{cond}
+use mathlib.Core.List.{List, [], _∷_, map}
+use mathlib.Core.Path.{_≡_}
+use lib.IntN.{ℤ, pos, _+ℤ_}
+use lib.ListN.{length, getD}
+use Rattle.laws.specs.Axes.{each}
+use Rattle.reply.specs.declared.Travel.{Travel}
+use Rattle.reply.specs.declared.Position.{Position}
+use Rattle.reply.specs.Reply.{positionOf}
+use Rattle.machine.specs.State.{Machine}
+use Rattle.machine.specs.Steps.{byteStep, tickStep, bufferAfter}
+use Rattle.machine.specs.Calls as calls
+use Rattle.machine.specs.Calls.{Call, state}
+use Rattle.machine.specs.Demand.{Holds, effect, begins, isPulse, lineOf, resetBy}
+use Rattle.controller.specs.declared.Controller.{Controller}
+use Rattle.controller.specs.declared.PowerOn.{PowerOn}
+use Rattle.controller.specs.declared.ByteAnswer.{ByteAnswer}
+use Rattle.controller.specs.declared.TickAnswer.{TickAnswer}
+use Rattle.controller.specs.Held.{heldPower, heldTravel, heldPosition, heldByte, heldTick}
+use Rattle.controller.specs.Reach.{Reachable, Made}
+
+-- ---- The reply of one call
+
+-- The part of a buffer is the reply of whatever byte left the buffer so and answered the length n.
+abbrev pub ReplyIn : List ℕ → ℕ → List ℕ → Type 0
+ReplyIn buffer n part =
+    (m : Machine) (b : ℕ) (entry : List ℕ) → buffer ≡ bufferAfter (byteStep m b entry) entry
+    → n ≡ length (byteStep m b entry .reply) → part ≡ byteStep m b entry .reply
+
+-- ---- Calls with their answers
+
+-- A received byte, the lent buffer before and after the call, and the answer; or a tick's input word and its answer.
+pub data Answered : Type 0 where
+  byte : ℕ → List ℕ → List ℕ → ByteAnswer → Answered
+  tick : ℕ → TickAnswer → Answered
+
+-- The controller that a call left.
+abbrev pub left : Answered → Controller
+left (byte b entry exit r) = r .controller
+left (tick w r) = r .controller
+
+-- The controller after a list of calls: the first call gets what power-on gave.
+abbrev pub last : PowerOn → List Answered → Controller
+last p [] = p .controller
+last p (x ∷ l) = left x
+
+-- What the contracts of `byte` and `tick` promise of a call on the controller c.
+abbrev pub Promised : Controller → Answered → Type 0
+Promised c (byte b entry exit r) =
+    Made c (λ m. r ≡ heldByte (byteStep m b entry))
+    × (Made c (λ m. exit ≡ bufferAfter (byteStep m b entry) entry) × Reachable (r .controller))
+Promised c (tick w r) = Made c (λ m. r ≡ heldTick (tickStep m w)) × Reachable (r .controller)
+
+-- Power-on with the switch s answered p, and the calls of the list were made one after the other.
+abbrev pub Follows : ℕ → PowerOn → List Answered → Type 0
+Follows s p [] = p ≡ heldPower s
+Follows s p (x ∷ l) = Follows s p l × Promised (last p l) x
+
+-- ---- What is read off such a list
+
+-- The calls without their answers.
+abbrev pub callOf : Answered → Call
+callOf (byte b entry exit r) = calls.byte b entry
+callOf (tick w r) = calls.tick w
+
+abbrev pub callsOf : List Answered → List Call
+callsOf [] = []
+callsOf (x ∷ l) = callOf x ∷ callsOf l
+
+-- What a call answered for axis k: a tick its pulse, a byte none.
+abbrev pub pulseIn : Answered → ℕ → ℤ
+pulseIn (byte b entry exit r) k = pos 0
+pulseIn (tick w r) k = getD (r .pulses) k (pos 0)
+
+-- The answered pulses of all ticks since the latest move's start took effect, for a stored start that very tick
+-- included.
+unfoldable pub countIn : ℕ → List Answered → ℕ → ℕ
+countIn s [] k = 0
+countIn s (x ∷ l) k = cond (begins (effect s (callsOf l) (callOf x))) 0 (countIn s l k) + isPulse (pulseIn x k)
+
+-- The sum of the answered pulses since power-on or the last accepted position reset.
+unfoldable pub sumIn : ℕ → List Answered → ℕ → ℤ
+sumIn s [] k = pos 0
+sumIn s (x ∷ l) k =
+    cond (resetBy (lineOf (state s (callsOf l)) (callOf x))) (pos 0) (sumIn s l k +ℤ pulseIn x k)
+
+-- ---- The claim
+
+-- What `travels` and `positions` promise of the controller c.
+abbrev pub TravelsOf : Controller → List Travel → Type 0
+TravelsOf c ts = Made c (λ m. ts ≡ each (heldTravel m))
+
+abbrev pub PositionsOf : Controller → List Position → Type 0
+PositionsOf c ps = Made c (λ m. ps ≡ each (heldPosition m))
+
+pub record HoldsOf (s : ℕ) (p : PowerOn) (l : List Answered) : Type 0 where
+  -- the last controller is one that an entry takes, so that the list can go on
+  pub goesOn : Reachable (last p l)
+  -- demand 3 is true of the list
+  pub holds : (k : ℕ) → k < 5 → Holds s (callsOf l) k
+  -- what `travels` answers of the last controller: the pulses that the ticks answered in the latest move
+  pub travels : (ts : List Travel) → TravelsOf (last p l) ts
+      → map (λ (t : Travel). t .0) ts ≡ each (countIn s l)
+  -- what `positions` answers of it: the sums of the answers since power-on or the last accepted reset
+  pub positions : (ps : List Position) → PositionsOf (last p l) ps → map positionOf ps ≡ each (sumIn s l)
+
+-- For every switch, every power-on answer and every list of answered calls after it.
+abbrev pub Demand3Answers : Type 0
+Demand3Answers = (s : ℕ) (p : PowerOn) (l : List Answered) → Follows s p l → HoldsOf s p l
