@@ -6,11 +6,12 @@ use lib.IntN.{pos}
 use Rattle.line.specs.declared.Command.{Command}
 use Rattle.line.specs.declared.Command.the-variants as C
 use Rattle.machine.specs.State.{
-  Settings,
   Plan,
   none,
   start,
   Machine,
+  put,
+  mark,
   withSettings,
   withNext,
   withMove,
@@ -75,83 +76,6 @@ number m c = turnedBy 11 (m .move .moving && wantsRest c) (ownNumber m c)
 
 -- ---- Effects
 
-abbrev pub setSpeed : Settings → ℕ → Settings
-setSpeed s x = record {
-  speed = x;
-  slope = s .slope;
-  dwell = s .dwell;
-  watch = s .watch;
-  polarity = s .polarity;
-  lowOn = s .lowOn;
-  highOn = s .highOn;
-}
-
-abbrev pub setSlope : Settings → ℕ → Settings
-setSlope s x = record {
-  speed = s .speed;
-  slope = x;
-  dwell = s .dwell;
-  watch = s .watch;
-  polarity = s .polarity;
-  lowOn = s .lowOn;
-  highOn = s .highOn;
-}
-
-abbrev pub setDwell : Settings → ℕ → Settings
-setDwell s x = record {
-  speed = s .speed;
-  slope = s .slope;
-  dwell = x;
-  watch = s .watch;
-  polarity = s .polarity;
-  lowOn = s .lowOn;
-  highOn = s .highOn;
-}
-
-abbrev pub setWatch : Settings → ℕ → Settings
-setWatch s x = record {
-  speed = s .speed;
-  slope = s .slope;
-  dwell = s .dwell;
-  watch = x;
-  polarity = s .polarity;
-  lowOn = s .lowOn;
-  highOn = s .highOn;
-}
-
-abbrev pub setPolarity : Settings → ℕ → Settings
-setPolarity s x = record {
-  speed = s .speed;
-  slope = s .slope;
-  dwell = s .dwell;
-  watch = s .watch;
-  polarity = x;
-  lowOn = s .lowOn;
-  highOn = s .highOn;
-}
-
-abbrev pub setLowOn : Settings → ℕ → Settings
-setLowOn s x = record {
-  speed = s .speed;
-  slope = s .slope;
-  dwell = s .dwell;
-  watch = s .watch;
-  polarity = s .polarity;
-  lowOn = x;
-  highOn = s .highOn;
-}
-
-abbrev pub setHighOn : Settings → ℕ → Settings
-setHighOn s x = record {
-  speed = s .speed;
-  slope = s .slope;
-  dwell = s .dwell;
-  watch = s .watch;
-  polarity = s .polarity;
-  lowOn = s .lowOn;
-  highOn = x;
-}
-
 -- A distance line sets one axis's distance and direction.
 abbrev pub setAxis : Plan → ℕ → Bool → ℕ → Plan
 setAxis p k s d = record {
@@ -169,12 +93,8 @@ drops m = withPause m (record { left = m .pause .left; waiting = none })
 
 -- A position reset zeroes positions and, with the emergency input inactive or disabled, frees the hold.
 abbrev pub resets : Machine → Machine
-resets m = withFlags (withPosition m (λ k. pos 0)) (record {
-  wrongMaster = m .flags .wrongMaster;
-  stopped = m .flags .stopped;
-  emergency = m .flags .emergency && emergencyActive m;
-  sensed = m .flags .sensed;
-})
+resets m =
+    withFlags (withPosition m (λ k. pos 0)) (mark (m .flags) 5 (m .flags .emergency && emergencyActive m))
 
 -- A start that is stored waits (a later one replaces it); any other begins a move.
 abbrev pub keepsStart : Machine → ℕ → Machine
@@ -186,24 +106,19 @@ obeysStart m k waits = cond (stores m waits) (keepsStart m k) (begun m k)
 -- What an accepted command does.
 abbrev pub does : Machine → Command → Machine
 does m (C.Distance k s d) = withNext m (setAxis (m .next) k s d)
-does m (C.Speed v) = withSettings m (setSpeed (m .settings) v)
-does m (C.Slope v) = withSettings m (setSlope (m .settings) v)
-does m (C.Dwell v) = withSettings m (setDwell (m .settings) v)
-does m (C.Watch v) = withSettings m (setWatch (m .settings) v)
-does m (C.Polarity v) = withSettings m (setPolarity (m .settings) v)
+does m (C.Speed v) = withSettings m (put (m .settings) 8 v)
+does m (C.Slope v) = withSettings m (put (m .settings) 9 v)
+does m (C.Dwell v) = withSettings m (put (m .settings) 10 v)
+does m (C.Watch v) = withSettings m (put (m .settings) 11 v)
+does m (C.Polarity v) = withSettings m (put (m .settings) 12 v)
 does m (C.Travel k) = m
 does m C.Status = m
 does m (C.Start k waits) = obeysStart m k waits
 does m C.Stop = drops (ordered m)
-does m C.ClearWrongMaster = withFlags m (record {
-  wrongMaster = false;
-  stopped = m .flags .stopped;
-  emergency = m .flags .emergency;
-  sensed = m .flags .sensed;
-})
+does m C.ClearWrongMaster = withFlags m (mark (m .flags) 2 false)
 does m C.ResetPositions = resets m
-does m (C.LowOn v) = withSettings m (setLowOn (m .settings) v)
-does m (C.HighOn v) = withSettings m (setHighOn (m .settings) v)
+does m (C.LowOn v) = withSettings m (put (m .settings) 13 v)
+does m (C.HighOn v) = withSettings m (put (m .settings) 14 v)
 does m (C.Position k) = m
 does m C.Everything = m
 does m C.Inputs = m

@@ -3,7 +3,7 @@ use Prim.Native.Nat.{ℕ, _+_, _-_, _*_, min, max}
 use mathlib.Core.Bool.{false, cond, not, _&&_}
 use lib.Dec.{ltb, leb, eqb}
 use lib.IntN.{ℤ, pos, _+ℤ_}
-use Rattle.machine.specs.State.{Settings, Move, Machine, withMove, withPosition, withPause}
+use Rattle.machine.specs.State.{Settings, Move, Machine, moveOf, withMove, withPosition, withPause}
 use Rattle.machine.specs.Shares.{whole, gone, share, pulse}
 
 -- The phase at which the master pulses.
@@ -32,27 +32,11 @@ ramped s v =
 
 -- The move with another speed and phase.
 abbrev pub atSpeed : Move → ℕ → ℕ → Move
-atSpeed v u phase = record {
-  plan = v .plan;
-  master = v .master;
-  travel = v .travel;
-  speed = u;
-  phase = phase;
-  moving = v .moving;
-  stopping = v .stopping;
-}
+atSpeed v u phase = moveOf (v .plan) (v .master) (v .travel) u phase (v .moving) (v .stopping)
 
 -- At any end u and phase become 0 and the dwell starts: 250 ticks for each ms set.
 abbrev pub atRest : Move → Move
-atRest v = record {
-  plan = v .plan;
-  master = v .master;
-  travel = v .travel;
-  speed = 0;
-  phase = 0;
-  moving = false;
-  stopping = false;
-}
+atRest v = moveOf (v .plan) (v .master) (v .travel) 0 0 false false
 
 abbrev pub ended : Machine → Machine
 ended m = withPause (withMove m (atRest (m .move)))
@@ -67,19 +51,12 @@ abbrev pub quiet : Machine → Ran
 quiet m = record { machine = m; pulse = λ k. pos 0 }
 
 -- The master pulses: travels become shares of the master travel n, positions change by one with each pulse.
+abbrev pub shared : Move → ℕ → ℕ → ℕ → Move
+shared v u phase n = moveOf (v .plan) (v .master) (share v n) u phase (v .moving) (v .stopping)
+
 abbrev pub stepped : Machine → ℕ → ℕ → ℕ → Machine
 stepped m u phase n =
-    withPosition
-    (withMove m (record {
-      plan = m .move .plan;
-      master = m .move .master;
-      travel = share (m .move) n;
-      speed = u;
-      phase = phase;
-      moving = m .move .moving;
-      stopping = m .move .stopping;
-    }))
-    (λ k. m .position k +ℤ pulse (m .move) n k)
+    withPosition (withMove m (shared (m .move) u phase n)) (λ k. m .position k +ℤ pulse (m .move) n k)
 
 -- At m = M the move ends.
 abbrev pub pulsed : Machine → ℕ → ℕ → ℕ → Ran

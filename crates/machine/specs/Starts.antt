@@ -3,7 +3,7 @@ use Prim.Native.Nat.{ℕ}
 use mathlib.Core.Bool.{Bool, true, false, cond, _||_}
 use lib.Dec.{ltb, eqb}
 use lib.IntN.{ℤ, pos, negsuc, _+ℤ_}
-use Rattle.machine.specs.State.{Plan, Move, none, start, Machine, withMove, withFlags, withPause}
+use Rattle.machine.specs.State.{Plan, Move, none, Machine, moveOf, mark, withMove, withFlags, withPause}
 use Rattle.laws.specs.Axes.{some, directed}
 use Rattle.machine.specs.Stops.{blocked, sensorActive}
 
@@ -35,32 +35,13 @@ startNumber m master =
 -- A move begins: the distances and directions set, travels at 0, speed and phase 0. Bits 3 and 6 are cleared, the dwell
 -- ends and a stored start is dropped.
 abbrev pub newMove : Plan → ℕ → Move
-newMove p master = record {
-  plan = p;
-  master = master;
-  travel = λ k. 0;
-  speed = 0;
-  phase = 0;
-  moving = true;
-  stopping = false;
-}
+newMove p master = moveOf p master (λ k. 0) 0 0 true false
 
 abbrev pub begun : Machine → ℕ → Machine
 begun m master =
-    withPause
-    (withFlags (withMove m (newMove (m .next) master)) (record {
-      wrongMaster = m .flags .wrongMaster;
-      stopped = false;
-      emergency = m .flags .emergency;
-      sensed = false;
-    }))
+    withPause (withFlags (withMove m (newMove (m .next) master)) (mark (mark (m .flags) 3 false) 6 false))
     (record { left = 0; waiting = none })
 
 -- A start turned away by 14 sets bit 2.
 abbrev pub notes : Machine → ℕ → Machine
-notes m number = withFlags m (record {
-  wrongMaster = m .flags .wrongMaster || eqb number 14;
-  stopped = m .flags .stopped;
-  emergency = m .flags .emergency;
-  sensed = m .flags .sensed;
-})
+notes m number = withFlags m (mark (m .flags) 2 (m .flags .wrongMaster || eqb number 14))

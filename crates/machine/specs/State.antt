@@ -1,8 +1,9 @@
 -- What the machine of paper 01 holds, in the paper's terms. Axes are numbers 0 to 4; what each axis has is a function
 -- of it.
 use Prim.Native.Nat.{ℕ}
-use mathlib.Core.Bool.{Bool}
+use mathlib.Core.Bool.{Bool, cond}
 use mathlib.Core.List.{List}
+use lib.Dec.{eqb}
 use lib.IntN.{ℤ}
 
 -- What P 8 to C and Q D, E set: speed V in units of 0.25 Hz, slope a in units of 1.25 kHz/s, dwell in ms.
@@ -66,154 +67,105 @@ pub record Machine : Type 0 where
   -- the characters received since the last 0D
   pub line : List ℕ
 
--- ---- The machine with one part replaced, all others as they are.
+-- ---- Each record by its parts: these are the places that name all fields of one.
 
-abbrev pub withSettings : Machine → Settings → Machine
-withSettings m x = record {
-  switch = m .switch;
-  settings = x;
-  next = m .next;
-  move = m .move;
-  position = m .position;
-  inputs = m .inputs;
-  outputs = m .outputs;
-  watch = m .watch;
-  flags = m .flags;
-  pause = m .pause;
-  line = m .line;
+-- The settings with the one of this code replaced: P 8 speed, 9 slope, A dwell, B watch, C polarity; Q D low-ON, E
+-- high-ON.
+abbrev pub put : Settings → ℕ → ℕ → Settings
+put s code v = record {
+  speed = cond (eqb code 8) v (s .speed);
+  slope = cond (eqb code 9) v (s .slope);
+  dwell = cond (eqb code 10) v (s .dwell);
+  watch = cond (eqb code 11) v (s .watch);
+  polarity = cond (eqb code 12) v (s .polarity);
+  lowOn = cond (eqb code 13) v (s .lowOn);
+  highOn = cond (eqb code 14) v (s .highOn);
 }
+
+-- The flags with the status bit of this number replaced.
+abbrev pub mark : Flags → ℕ → Bool → Flags
+mark f number b = record {
+  wrongMaster = cond (eqb number 2) b (f .wrongMaster);
+  stopped = cond (eqb number 3) b (f .stopped);
+  emergency = cond (eqb number 5) b (f .emergency);
+  sensed = cond (eqb number 6) b (f .sensed);
+}
+
+-- A move by its plan, master, travels, speed and phase, and whether it runs and is being stopped.
+abbrev pub moveOf : Plan → ℕ → (ℕ → ℕ) → ℕ → ℕ → Bool → Bool → Move
+moveOf plan master travel speed phase moving stopping = record {
+  plan = plan;
+  master = master;
+  travel = travel;
+  speed = speed;
+  phase = phase;
+  moving = moving;
+  stopping = stopping;
+}
+
+-- A machine by its parts, in the order above.
+abbrev pub machineOf : ℕ → Settings → Plan → Move → (ℕ → ℤ) → ℕ → ℕ → ℕ → Flags → Pause → List ℕ → Machine
+machineOf switch settings next move position inputs outputs watch flags pause line = record {
+  switch = switch;
+  settings = settings;
+  next = next;
+  move = move;
+  position = position;
+  inputs = inputs;
+  outputs = outputs;
+  watch = watch;
+  flags = flags;
+  pause = pause;
+  line = line;
+}
+
+-- The machine with one part replaced, all others as they are.
+abbrev pub withSettings : Machine → Settings → Machine
+withSettings m x =
+    machineOf (m .switch) x (m .next) (m .move) (m .position) (m .inputs) (m .outputs) (m .watch) (m .flags)
+    (m .pause) (m .line)
 
 abbrev pub withNext : Machine → Plan → Machine
-withNext m x = record {
-  switch = m .switch;
-  settings = m .settings;
-  next = x;
-  move = m .move;
-  position = m .position;
-  inputs = m .inputs;
-  outputs = m .outputs;
-  watch = m .watch;
-  flags = m .flags;
-  pause = m .pause;
-  line = m .line;
-}
+withNext m x =
+    machineOf (m .switch) (m .settings) x (m .move) (m .position) (m .inputs) (m .outputs) (m .watch) (m .flags)
+    (m .pause) (m .line)
 
 abbrev pub withMove : Machine → Move → Machine
-withMove m x = record {
-  switch = m .switch;
-  settings = m .settings;
-  next = m .next;
-  move = x;
-  position = m .position;
-  inputs = m .inputs;
-  outputs = m .outputs;
-  watch = m .watch;
-  flags = m .flags;
-  pause = m .pause;
-  line = m .line;
-}
+withMove m x =
+    machineOf (m .switch) (m .settings) (m .next) x (m .position) (m .inputs) (m .outputs) (m .watch) (m .flags)
+    (m .pause) (m .line)
 
 abbrev pub withPosition : Machine → (ℕ → ℤ) → Machine
-withPosition m x = record {
-  switch = m .switch;
-  settings = m .settings;
-  next = m .next;
-  move = m .move;
-  position = x;
-  inputs = m .inputs;
-  outputs = m .outputs;
-  watch = m .watch;
-  flags = m .flags;
-  pause = m .pause;
-  line = m .line;
-}
+withPosition m x =
+    machineOf (m .switch) (m .settings) (m .next) (m .move) x (m .inputs) (m .outputs) (m .watch) (m .flags)
+    (m .pause) (m .line)
 
 abbrev pub withInputs : Machine → ℕ → Machine
-withInputs m x = record {
-  switch = m .switch;
-  settings = m .settings;
-  next = m .next;
-  move = m .move;
-  position = m .position;
-  inputs = x;
-  outputs = m .outputs;
-  watch = m .watch;
-  flags = m .flags;
-  pause = m .pause;
-  line = m .line;
-}
+withInputs m x =
+    machineOf (m .switch) (m .settings) (m .next) (m .move) (m .position) x (m .outputs) (m .watch) (m .flags)
+    (m .pause) (m .line)
 
 abbrev pub withOutputs : Machine → ℕ → Machine
-withOutputs m x = record {
-  switch = m .switch;
-  settings = m .settings;
-  next = m .next;
-  move = m .move;
-  position = m .position;
-  inputs = m .inputs;
-  outputs = x;
-  watch = m .watch;
-  flags = m .flags;
-  pause = m .pause;
-  line = m .line;
-}
+withOutputs m x =
+    machineOf (m .switch) (m .settings) (m .next) (m .move) (m .position) (m .inputs) x (m .watch) (m .flags)
+    (m .pause) (m .line)
 
 abbrev pub withWatch : Machine → ℕ → Machine
-withWatch m x = record {
-  switch = m .switch;
-  settings = m .settings;
-  next = m .next;
-  move = m .move;
-  position = m .position;
-  inputs = m .inputs;
-  outputs = m .outputs;
-  watch = x;
-  flags = m .flags;
-  pause = m .pause;
-  line = m .line;
-}
+withWatch m x =
+    machineOf (m .switch) (m .settings) (m .next) (m .move) (m .position) (m .inputs) (m .outputs) x (m .flags)
+    (m .pause) (m .line)
 
 abbrev pub withFlags : Machine → Flags → Machine
-withFlags m x = record {
-  switch = m .switch;
-  settings = m .settings;
-  next = m .next;
-  move = m .move;
-  position = m .position;
-  inputs = m .inputs;
-  outputs = m .outputs;
-  watch = m .watch;
-  flags = x;
-  pause = m .pause;
-  line = m .line;
-}
+withFlags m x =
+    machineOf (m .switch) (m .settings) (m .next) (m .move) (m .position) (m .inputs) (m .outputs) (m .watch) x
+    (m .pause) (m .line)
 
 abbrev pub withPause : Machine → Pause → Machine
-withPause m x = record {
-  switch = m .switch;
-  settings = m .settings;
-  next = m .next;
-  move = m .move;
-  position = m .position;
-  inputs = m .inputs;
-  outputs = m .outputs;
-  watch = m .watch;
-  flags = m .flags;
-  pause = x;
-  line = m .line;
-}
+withPause m x =
+    machineOf (m .switch) (m .settings) (m .next) (m .move) (m .position) (m .inputs) (m .outputs) (m .watch)
+    (m .flags) x (m .line)
 
 abbrev pub withLine : Machine → List ℕ → Machine
-withLine m x = record {
-  switch = m .switch;
-  settings = m .settings;
-  next = m .next;
-  move = m .move;
-  position = m .position;
-  inputs = m .inputs;
-  outputs = m .outputs;
-  watch = m .watch;
-  flags = m .flags;
-  pause = m .pause;
-  line = x;
-}
+withLine m x =
+    machineOf (m .switch) (m .settings) (m .next) (m .move) (m .position) (m .inputs) (m .outputs) (m .watch)
+    (m .flags) (m .pause) x

@@ -13,7 +13,7 @@ use Rattle.line.specs.declared.Judged.the-variants.{Accepted, Refused}
 use Rattle.receiver.specs.declared.Heard.{Heard}
 use Rattle.receiver.specs.declared.Heard.the-variants.{Character, Line}
 use Rattle.receiver.specs.Receiver.{receive}
-use Rattle.machine.specs.State.{Plan, Waiting, none, start, Machine, withLine, withWatch, withPause}
+use Rattle.machine.specs.State.{Plan, Waiting, none, start, Machine, moveOf, withLine, withWatch, withPause}
 use Rattle.machine.specs.Ramp.{Ran, runs}
 use Rattle.machine.specs.Stops.{takes, stops}
 use Rattle.machine.specs.Starts.{startNumber, begun, notes}
@@ -35,15 +35,7 @@ powerOn switch = record {
   switch = cond (badSwitch switch) 0 switch;
   settings = record { speed = 10000; slope = 16; dwell = 0; watch = 0; polarity = 0; lowOn = 0; highOn = 0 };
   next = plan₀;
-  move = record {
-    plan = plan₀;
-    master = 0;
-    travel = λ k. 0;
-    speed = 0;
-    phase = 0;
-    moving = false;
-    stopping = false;
-  };
+  move = moveOf plan₀ 0 (λ k. 0) 0 0 false false;
   position = λ k. pos 0;
   inputs = 0;
   outputs = 0;

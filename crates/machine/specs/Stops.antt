@@ -9,6 +9,8 @@ use Rattle.machine.specs.State.{
   Move,
   Flags,
   Machine,
+  moveOf,
+  mark,
   withMove,
   withFlags,
   withInputs,
@@ -39,12 +41,7 @@ raisesWatch m = withWatch m (min 1000000 (m .watch + 1))
 
 -- If emergency is active, hold it.
 abbrev pub holds : Machine → Machine
-holds m = withFlags m (record {
-  wrongMaster = m .flags .wrongMaster;
-  stopped = m .flags .stopped;
-  emergency = m .flags .emergency || emergencyActive m;
-  sensed = m .flags .sensed;
-})
+holds m = withFlags m (mark (m .flags) 5 (m .flags .emergency || emergencyActive m))
 
 -- At a full watch count with watch bit 1, clear the general outputs.
 abbrev pub clears : Machine → Machine
@@ -66,24 +63,11 @@ cause m = m .move .moving && (m .flags .emergency || sensorActive m || limitOrWa
 
 -- The move is being stopped.
 abbrev pub stopping : Move → Move
-stopping v = record {
-  plan = v .plan;
-  master = v .master;
-  travel = v .travel;
-  speed = v .speed;
-  phase = v .phase;
-  moving = v .moving;
-  stopping = true;
-}
+stopping v = moveOf (v .plan) (v .master) (v .travel) (v .speed) (v .phase) (v .moving) true
 
 -- Bits 3 (order, limit or watch) and 6 (sensor) are set as a stop cause meets a running move.
 abbrev pub marks : Flags → Bool → Bool → Flags
-marks f three six = record {
-  wrongMaster = f .wrongMaster;
-  stopped = f .stopped || three;
-  emergency = f .emergency;
-  sensed = f .sensed || six;
-}
+marks f three six = mark (mark f 3 (f .stopped || three)) 6 (f .sensed || six)
 
 abbrev pub stops : Machine → Machine
 stops m =
