@@ -9,31 +9,17 @@ use lib.IntN.{ℤ, pos, _+ℤ_}
 use lib.ListN.{getD}
 use Rattle.laws.specs.Axes.{each}
 use Rattle.reply.specs.declared.Travel.{Travel}
-use Rattle.reply.specs.declared.Position.{Position}
 use Rattle.reply.specs.Reply.{positionOf}
 use Rattle.machine.specs.State.{Machine}
 use Rattle.machine.specs.Replies as replies
 use Rattle.machine.specs.Steps.{tickStep}
 use Rattle.machine.specs.Calls.{Call, state}
-use Rattle.machine.specs.Demand.{effect, begins, isPulse, lineOf, resetBy, sent, counted, signed}
+use Rattle.machine.specs.List.{effect, begins, isPulse, lineOf, resetBy, sent, counted, signed}
 use Rattle.machine.proofs.DemandLaws.{demand-3, counts-hold}
 use Rattle.controller.specs.declared.PowerOn.{PowerOn}
 use Rattle.controller.specs.declared.TickAnswer.{TickAnswer}
-use Rattle.controller.specs.Held.{held, heldTravel, heldPosition}
-use Rattle.controller.specs.Answers.{
-  Answered,
-  byte,
-  tick,
-  last,
-  Follows,
-  callOf,
-  callsOf,
-  pulseIn,
-  countIn,
-  sumIn,
-  HoldsOf,
-  Demand3Answers,
-}
+use Rattle.controller.specs.Held.{held, heldPosition}
+use Rattle.controller.specs.Answers.{Answered, byte, tick, last, Follows, callOf, callsOf, pulseIn, countIn, sumIn, Demand3Answers}
 use Rattle.controller.proofs.TickLaws.{each-at}
 use Rattle.controller.proofs.ByteLaws.{unbiased}
 use Rattle.controller.proofs.ReachLaws.{after-power, after-byte, after-tick}

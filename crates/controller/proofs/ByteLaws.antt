@@ -21,7 +21,7 @@ use Rattle.reply.specs.declared.Travel.{Travel}
 use Rattle.reply.specs.declared.Position.{Position}
 use Rattle.reply.specs.Reply.{travelDigits, twenty, bias, replyOf, toldBy, axesFit}
 use Rattle.reply.proofs.Replies.{reply-same}
-use Rattle.machine.specs.State.{Machine, withFlags, withMove, withWatch, withPause, start}
+use Rattle.machine.specs.State.{Machine, withFlags, withMove, withWatch}
 use Rattle.machine.specs.Stops.{status, blocked, stopping, marks}
 use Rattle.machine.specs.Starts.{begun, notes, outside}
 use Rattle.machine.specs.Commands.{number, does, drops, stores, keepsStart, turned}

@@ -2,8 +2,8 @@
 -- Assumes nothing.
 use Prim.Native.Nat.{ℕ, _≤_}
 use native.Mathlib.Omega.{arith}
-use mathlib.Core.Bool.{Bool, cond}
-use mathlib.Core.List.{List, []}
+use mathlib.Core.Bool.{Bool}
+use mathlib.Core.List.{List}
 use mathlib.Core.Path.{_≡_, _∙_}
 use borrow.Author.Tests.{ltb-false}
 use lib.Dec.{ltb, eqb}
@@ -21,7 +21,7 @@ use Rattle.reply.proofs.Replies.{reply-most, refusal-most}
 use Rattle.machine.specs.State.{Machine}
 use Rattle.machine.specs.Commands.{number}
 use Rattle.machine.specs.Replies.{toldOf, unlessSilent}
-use Rattle.machine.specs.Steps.{Outcome, refused, accepted, decided, outcomeOf, answered, byteStep, bufferAfter}
+use Rattle.machine.specs.Steps.{Outcome, refused, decided, outcomeOf, answered, byteStep}
 use Rattle.controller.specs.Answers.{ReplyIn}
 
 silent-most : (silent : Bool) (reply : List ℕ) → length reply ≤ 120 → length (unlessSilent silent reply) ≤ 120

@@ -19,73 +19,15 @@ use Rattle.line.specs.declared.Judged.the-variants.{Accepted, Refused}
 use Rattle.receiver.specs.declared.Heard.{Heard}
 use Rattle.receiver.specs.declared.Heard.the-variants.{Character, Line}
 use Rattle.receiver.specs.Receiver.{receive}
-use Rattle.machine.specs.State.{
-  Plan,
-  Move,
-  Machine,
-  Waiting,
-  none,
-  start,
-  withMove,
-  withNext,
-  withPosition,
-  withWatch,
-  withPause,
-  withFlags,
-}
+use Rattle.machine.specs.State.{Plan, Move, Machine, Waiting, none, start, withMove, withNext, withPosition, withWatch, withFlags}
 use Rattle.machine.specs.Shares.{whole}
 use Rattle.machine.specs.Ramp.{runs}
 use Rattle.machine.specs.Stops.{takes, cause, limitOrWatch, stops, stopping, marks, sensorActive, blocked}
 use Rattle.machine.specs.Starts.{startNumber, newMove, begun, notes, outside, final}
 use Rattle.machine.specs.Commands.{number, does, stores, setAxis, drops, keepsStart}
-use Rattle.machine.specs.Steps.{
-  Outcome,
-  refused,
-  accepted,
-  decided,
-  outcomeOf,
-  outcome,
-  answered,
-  heardBy,
-  Tried,
-  untried,
-  failed,
-  began,
-  tryStart,
-  tryWaiting,
-  tries,
-  waits,
-  looks,
-  ticked,
-  refusedTick,
-  failure,
-  tooLarge,
-}
+use Rattle.machine.specs.Steps.{Outcome, refused, decided, outcomeOf, outcome, answered, heardBy, Tried, untried, failed, began, tryStart, tryWaiting, tries, waits, looks, ticked, refusedTick, failure, tooLarge}
 use Rattle.machine.specs.Calls.{Call, byte, tick, after}
-use Rattle.machine.specs.Demand.{
-  Role,
-  other,
-  distanceLine,
-  startLine,
-  stopOrder,
-  resetOrder,
-  roleOf,
-  roleBy,
-  lineOf,
-  startBy,
-  takesEffect,
-  moves,
-  stopBy,
-  stopsIn,
-  resetBy,
-  distanceBy,
-  minusBy,
-  sent,
-  isTick,
-  begins,
-  atStart,
-  isPulse,
-}
+use Rattle.machine.specs.List.{Role, other, distanceLine, startLine, stopOrder, resetOrder, roleOf, roleBy, lineOf, startBy, takesEffect, stopBy, stopsIn, resetBy, distanceBy, minusBy, sent, isTick, begins, atStart, isPulse}
 use Rattle.machine.proofs.BitLaws.{status-moving}
 use Rattle.machine.proofs.ShareLaws.{share-none}
 use Rattle.machine.proofs.RunLaws.{Good, Whole, Runs, runs-is, true-false, no-pulse}

@@ -11,43 +11,8 @@ use Rattle.machine.specs.Shares as shares
 use Rattle.laws.specs.Axes.{directed}
 use Rattle.machine.specs.Steps.{Tried, untried, failed, began}
 use Rattle.machine.specs.Calls.{Call, after, state}
-use Rattle.machine.specs.Demand.{
-  Role,
-  lineOf,
-  takesEffect,
-  moves,
-  stopsIn,
-  resetBy,
-  distanceBy,
-  minusBy,
-  sent,
-  isTick,
-  begins,
-  atStart,
-  isPulse,
-  storedAfter,
-  stored,
-  effect,
-  lastDistance,
-  lastMinus,
-  started,
-  distance,
-  minus,
-  master,
-  counted,
-  signed,
-  stopBegun,
-  goesOn,
-  ends,
-  latest,
-  travel,
-  gone,
-  whole,
-  ShareLaw,
-  Answer,
-  Ended,
-  Demand3,
-}
+use Rattle.machine.specs.List.{Role, lineOf, takesEffect, moves, stopsIn, resetBy, distanceBy, minusBy, sent, isTick, begins, atStart, isPulse, storedAfter, stored, effect, lastDistance, lastMinus, started, distance, minus, master, counted, signed, stopBegun, goesOn, ends, latest, travel, gone, whole}
+use Rattle.machine.specs.Demand.{ShareLaw, Answer, Ended, Demand3}
 use Rattle.machine.proofs.BitLaws.{status-moving}
 use Rattle.machine.proofs.ShareLaws.{Share, share-none}
 use Rattle.machine.proofs.RunLaws.{Good, Whole, true-false, and-first}

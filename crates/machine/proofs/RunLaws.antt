@@ -13,7 +13,7 @@ use Rattle.laws.proofs.Pick.{by-bool}
 use Rattle.machine.specs.State.{Move, Machine, withMove}
 use Rattle.machine.specs.Shares.{whole, gone, share, pulse}
 use Rattle.machine.specs.Ramp.{Ran, ended, atSpeed, stepped, pulsed, advanced, ramped, runs, full}
-use Rattle.machine.specs.Demand.{isPulse}
+use Rattle.machine.specs.List.{isPulse}
 use Rattle.machine.proofs.ShareLaws.{
   Share,
   share-next,

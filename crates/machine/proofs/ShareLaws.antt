@@ -18,7 +18,7 @@ use lib.Dec.{ltb}
 use lib.IntN.{ℤ, pos, natAbs}
 use Rattle.laws.proofs.Pick.{by-lt}
 use Rattle.laws.specs.Axes.{directed}
-use Rattle.machine.specs.Demand.{isPulse}
+use Rattle.machine.specs.List.{isPulse}
 
 -- The exact share, multiplied out: t × M ≤ m × d < (t + 1) × M, and no axis is longer than the master.
 pub record Share (d M m t : ℕ) : Type 0 where

@@ -15,36 +15,15 @@ use Rattle.line.specs.declared.Judged.the-variants.{Accepted, Refused}
 use Rattle.receiver.specs.declared.Heard.{Heard}
 use Rattle.receiver.specs.declared.Heard.the-variants.{Character, Line}
 use Rattle.receiver.specs.Receiver.{receive}
-use Rattle.machine.specs.State.{Machine, Waiting, none, start, withMove, withWatch, withPause, withFlags}
+use Rattle.machine.specs.State.{Machine, Waiting, none, start, withWatch}
 use Rattle.machine.specs.Shares.{whole, gone}
-use Rattle.machine.specs.Ramp.{Ran, full, ramped, ended, stepped, runs}
-use Rattle.machine.specs.Stops.{takes, cause, stops, stopping, marks, limitOrWatch, sensorActive}
+use Rattle.machine.specs.Ramp.{Ran, full, ramped, runs}
+use Rattle.machine.specs.Stops.{takes, cause, stops, stopping}
 use Rattle.machine.specs.Starts.{startNumber, begun, notes}
 use Rattle.machine.specs.Commands.{number, does, stores, keepsStart}
-use Rattle.machine.specs.Steps.{
-  Outcome,
-  refused,
-  accepted,
-  decided,
-  outcomeOf,
-  outcome,
-  answered,
-  heardBy,
-  Tried,
-  untried,
-  tryStart,
-  tryWaiting,
-  tries,
-  runsOut,
-  waits,
-  looks,
-  ticked,
-  refusedTick,
-  failure,
-  tooLarge,
-}
+use Rattle.machine.specs.Steps.{Outcome, refused, decided, outcomeOf, outcome, answered, heardBy, Tried, untried, tryStart, tryWaiting, tries, runsOut, waits, looks, ticked, refusedTick, failure, tooLarge}
 use Rattle.machine.specs.Calls.{Call, byte, tick, after}
-use Rattle.machine.specs.Demand.{roleOf, roleBy, storedBy, storedAfter}
+use Rattle.machine.specs.List.{roleOf, roleBy, storedBy, storedAfter}
 
 abbrev waiting : Machine → Waiting
 waiting m = m .pause .waiting

@@ -11,21 +11,7 @@ use Rattle.laws.specs.Axes.{each}
 use Rattle.machine.specs.State.{none, start}
 use Rattle.machine.specs.Steps.{tickStep}
 use Rattle.machine.specs.Calls.{Call, byte, tick, state}
-use Rattle.machine.specs.Demand.{
-  stored,
-  started,
-  ends,
-  goesOn,
-  stopBegun,
-  distance,
-  minus,
-  master,
-  travel,
-  counted,
-  position,
-  signed,
-  latest,
-}
+use Rattle.machine.specs.List.{stored, started, ends, goesOn, stopBegun, distance, minus, master, travel, counted, position, signed, latest}
 use Rattle.machine.specs.Marked.{chars, buffer}
 
 -- ---- Lists of calls, the latest first

@@ -19,7 +19,7 @@ use Rattle.machine.specs.State.{Machine}
 use Rattle.machine.specs.Steps.{tickStep}
 use Rattle.machine.specs.Starts.{outside}
 use Rattle.machine.specs.Calls.{Call, tick, state}
-use Rattle.machine.specs.Demand.{signed, position, latest}
+use Rattle.machine.specs.List.{signed, position, latest}
 use Rattle.machine.proofs.DemandLaws.{demand-3}
 use Rattle.controller.specs.declared.Controller.{Controller}
 use Rattle.controller.specs.Held.{held}

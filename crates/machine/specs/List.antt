@@ -1,0 +1,253 @@
+-- Paper 01, "The list of demand 3": what is read off a list of calls from power-on.
+--
+-- Which lines are accepted, when starts take effect and when stops begin is what the machine of paper 01 does on the
+-- list (`outcome`, `takesEffect`, `stopsIn`). Distances, directions, stored starts and masters are read off the accepted
+-- lines, pulses off the answers of ticks; no counter is kept beside them. `travel` and `position` are the figures that
+-- the replies to Q 0-4 and q 0-4 are made from.
+use Prim.Native.Nat.{ℕ, _+_}
+use mathlib.Core.Bool.{Bool, true, false, cond, not, _&&_, _||_}
+use mathlib.Core.List.{List, [], _∷_}
+use lib.Dec.{eqb}
+use lib.IntN.{ℤ, pos, _+ℤ_, natAbs}
+use Rattle.line.specs.declared.Command.{Command}
+use Rattle.line.specs.declared.Command.the-variants as C
+use Rattle.machine.specs.State.{Machine, Waiting, none, start}
+use Rattle.laws.specs.Bits.{bit, weight}
+use Rattle.machine.specs.Stops.{takes, cause, status}
+use Rattle.machine.specs.Commands.{stores}
+use Rattle.machine.specs.Replies.{travelOf, positionOf}
+use Rattle.machine.specs.Steps.{
+  Outcome,
+  untaken,
+  gathered,
+  refused,
+  accepted,
+  outcome,
+  Tried,
+  untried,
+  failed,
+  began,
+  runsOut,
+  triesFor,
+  looks,
+  tooLarge,
+  tickStep,
+}
+use Rattle.machine.specs.Calls.{Call, byte, tick, state}
+
+-- ---- What one call is, to the machine m that it is given
+
+-- What an accepted line is to the list: a distance line, a start, order 9, a position reset, or none of these.
+pub data Role : Type 0 where
+  other : Role
+  distanceLine : ℕ → Bool → ℕ → Role
+  startLine : ℕ → Bool → Role
+  stopOrder : Role
+  resetOrder : Role
+
+abbrev pub roleOf : Command → Role
+roleOf (C.Distance k s d) = distanceLine k s d
+roleOf (C.Speed v) = other
+roleOf (C.Slope v) = other
+roleOf (C.Dwell v) = other
+roleOf (C.Watch v) = other
+roleOf (C.Polarity v) = other
+roleOf (C.Travel k) = other
+roleOf C.Status = other
+roleOf (C.Start k waits) = startLine k waits
+roleOf C.Stop = stopOrder
+roleOf C.ClearWrongMaster = other
+roleOf C.ResetPositions = resetOrder
+roleOf (C.LowOn v) = other
+roleOf (C.HighOn v) = other
+roleOf (C.Position k) = other
+roleOf C.Everything = other
+roleOf C.Inputs = other
+roleOf (C.Outputs v) = other
+
+abbrev pub roleBy : Outcome → Role
+roleBy untaken = other
+roleBy gathered = other
+roleBy (refused n silent ident) = other
+roleBy (accepted c digits silent ident) = roleOf c
+
+-- The accepted line that a call ends, if any.
+abbrev pub lineOf : Machine → Call → Role
+lineOf m (byte b buffer) = roleBy (outcome m b buffer)
+lineOf m (tick w) = other
+
+-- A plain start (Q 8, not stored) takes effect as its line is accepted.
+abbrev pub startBy : Machine → Role → Tried
+startBy m other = untried
+startBy m (distanceLine k s d) = untried
+startBy m (startLine k waits) = cond (stores m waits) untried (began k)
+startBy m stopOrder = untried
+startBy m resetOrder = untried
+
+-- A stored start, w, takes effect in the tick that tries it, if no number turns it away.
+abbrev pub takesEffect : Machine → Waiting → Call → Tried
+takesEffect m w (byte b buffer) = startBy m (roleBy (outcome m b buffer))
+takesEffect m w (tick word) = cond (tooLarge word) untried (triesFor (takes m word) w)
+
+-- The stored start after a line, w being the one before: a start after the dwell is stored if a dwell runs, and a later
+-- one replaces it; a plain start that takes effect drops it, and so does order 9.
+abbrev pub storedBy : Machine → Role → Waiting → Waiting
+storedBy m other w = w
+storedBy m (distanceLine k s d) w = w
+storedBy m (startLine k waits) w = cond (stores m waits) (start k) none
+storedBy m stopOrder w = none
+storedBy m resetOrder w = w
+
+-- The stored start after a call: one that is tried as the dwell runs out is dropped, begun or not.
+abbrev pub storedAfter : Machine → Call → Waiting → Waiting
+storedAfter m (byte b buffer) w = storedBy m (roleBy (outcome m b buffer)) w
+storedAfter m (tick word) w = cond (tooLarge word) w (cond (runsOut (takes m word)) none w)
+
+-- Status bit 1.
+abbrev pub moves : Machine → Bool
+moves m = bit (status m) 1
+
+-- A stop begins where order 9 is accepted with status bit 1 set ..
+abbrev pub stopBy : Machine → Role → Bool
+stopBy m other = false
+stopBy m (distanceLine k s d) = false
+stopBy m (startLine k waits) = false
+stopBy m stopOrder = moves m
+stopBy m resetOrder = false
+
+-- .. or where a tick begins one by the tick order.
+abbrev pub stopsIn : Machine → Call → Bool
+stopsIn m (byte b buffer) = stopBy m (roleBy (outcome m b buffer))
+stopsIn m (tick w) = cond (tooLarge w) false (cause (looks m w))
+
+-- An accepted position reset.
+abbrev pub resetBy : Role → Bool
+resetBy other = false
+resetBy (distanceLine k s d) = false
+resetBy (startLine k waits) = false
+resetBy stopOrder = false
+resetBy resetOrder = true
+
+-- The distance, or the direction, of axis k after a line: that of an accepted distance line for k, else the old one.
+abbrev pub distanceBy : Role → ℕ → ℕ → ℕ
+distanceBy other k old = old
+distanceBy (distanceLine j s d) k old = cond (eqb k j) d old
+distanceBy (startLine j waits) k old = old
+distanceBy stopOrder k old = old
+distanceBy resetOrder k old = old
+
+abbrev pub minusBy : Role → ℕ → Bool → Bool
+minusBy other k old = old
+minusBy (distanceLine j s d) k old = cond (eqb k j) s old
+minusBy (startLine j waits) k old = old
+minusBy stopOrder k old = old
+minusBy resetOrder k old = old
+
+-- A pump sends a pulse where a tick answers 1 or -1 for it.
+abbrev pub sent : Machine → Call → ℕ → ℤ
+sent m (byte b buffer) k = pos 0
+sent m (tick w) k = tickStep m w .pulse k
+
+abbrev pub isTick : Call → Bool
+isTick (byte b buffer) = false
+isTick (tick w) = true
+
+abbrev pub begins : Tried → Bool
+begins untried = false
+begins (failed n) = false
+begins (began k) = true
+
+-- A value that a start sets anew from its master, and that stays otherwise.
+abbrev pub atStart : {A : Type 0} → Tried → (ℕ → A) → A → A
+atStart untried new old = old
+atStart (failed n) new old = old
+atStart (began k) new old = new k
+
+-- ---- What a list is, the latest call first, from power-on with a switch
+
+-- The last accepted distance line of an axis, 0 and plus without one.
+unfoldable pub lastDistance : ℕ → List Call → ℕ → ℕ
+lastDistance s [] k = 0
+lastDistance s (x ∷ h) k = distanceBy (lineOf (state s h) x) k (lastDistance s h k)
+
+unfoldable pub lastMinus : ℕ → List Call → ℕ → Bool
+lastMinus s [] k = false
+lastMinus s (x ∷ h) k = minusBy (lineOf (state s h) x) k (lastMinus s h k)
+
+-- The start that waits for the end of the dwell: the last start line that was stored, unless it is gone.
+unfoldable pub stored : ℕ → List Call → Waiting
+stored s [] = none
+stored s (x ∷ h) = storedAfter (state s h) x (stored s h)
+
+-- The start that takes effect in a call x after the list, if one does.
+abbrev pub effect : ℕ → List Call → Call → Tried
+effect s h x = takesEffect (state s h) (stored s h) x
+
+-- Whether a start has taken effect. That begins a move, the latest until another start takes effect.
+unfoldable pub started : ℕ → List Call → Bool
+started s [] = false
+started s (x ∷ h) = begins (effect s h x) || started s h
+
+-- The latest move's distances and directions: those of each axis's last accepted distance line before its start.
+unfoldable pub distance : ℕ → List Call → ℕ → ℕ
+distance s [] k = 0
+distance s (x ∷ h) k = atStart (effect s h x) (λ j. lastDistance s h k) (distance s h k)
+
+unfoldable pub minus : ℕ → List Call → ℕ → Bool
+minus s [] k = false
+minus s (x ∷ h) k = atStart (effect s h x) (λ j. lastMinus s h k) (minus s h k)
+
+-- The master named in the latest move's start.
+unfoldable pub master : ℕ → List Call → ℕ
+master s [] = 0
+master s (x ∷ h) = atStart (effect s h x) (λ j. j) (master s h)
+
+-- The answers that are not 0 of all ticks since the latest move's start took effect, for a stored start that very tick
+-- included.
+abbrev pub isPulse : ℤ → ℕ
+isPulse z = weight (not (eqb (natAbs z) 0)) 1
+
+unfoldable pub counted : ℕ → List Call → ℕ → ℕ
+counted s [] k = 0
+counted s (x ∷ h) k = cond (begins (effect s h x)) 0 (counted s h k) + isPulse (sent (state s h) x k)
+
+-- Signed pulses are the sum of the answers, since power-on or the last accepted position reset.
+unfoldable pub signed : ℕ → List Call → ℕ → ℤ
+signed s [] k = pos 0
+signed s (x ∷ h) k = cond (resetBy (lineOf (state s h) x)) (pos 0) (signed s h k +ℤ sent (state s h) x k)
+
+-- Whether a stop has begun in the latest move, its start's own call included.
+unfoldable pub stopBegun : ℕ → List Call → Bool
+stopBegun s [] = false
+stopBegun s (x ∷ h) =
+    stopsIn (state s h) x || (not (begins (effect s h x)) && stopBegun s h)
+
+-- Whether the latest move has not ended: no tick that counts for its pulses has left status bit 1 at 0.
+unfoldable pub goesOn : ℕ → List Call → Bool
+goesOn s [] = false
+goesOn s (x ∷ h) =
+    (begins (effect s h x) || goesOn s h) && (not (isTick x) || moves (state s (x ∷ h)))
+
+-- A move ends in the first tick that counts for its pulses and after which status bit 1 is 0.
+unfoldable pub ends : ℕ → List Call → Bool
+ends s [] = false
+ends s (x ∷ h) =
+    isTick x && ((begins (effect s h x) || goesOn s h) && not (moves (state s (x ∷ h))))
+
+-- What the latest call answers for an axis.
+unfoldable pub latest : ℕ → List Call → ℕ → ℤ
+latest s [] k = pos 0
+latest s (x ∷ h) k = sent (state s h) x k
+
+-- Travels and positions are the figures that the replies are made from; m is the master's travel, M its distance.
+abbrev pub travel : ℕ → List Call → ℕ → ℕ
+travel s h k = travelOf (state s h) k
+
+abbrev pub position : ℕ → List Call → ℕ → ℤ
+position s h k = positionOf (state s h) k
+
+abbrev pub gone : ℕ → List Call → ℕ
+gone s h = travel s h (master s h)
+
+abbrev pub whole : ℕ → List Call → ℕ
+whole s h = distance s h (master s h)
