@@ -3,7 +3,7 @@
 use Prim.Native.Nat.{ℕ}
 use mathlib.Core.List.{List, [], _∷_}
 use mathlib.Core.Path.{_≡_, sym, ap}
-use Rattle.machine.specs.Calls.{Call, byte, tick, state}
+use Rattle.machine.specs.Calls.{Call, byte, tick, run, state}
 use Rattle.machine.specs.Steps.{byteStep, tickStep, bufferAfter}
 use Rattle.controller.specs.declared.Controller.{Controller}
 use Rattle.controller.specs.declared.PowerOn.{PowerOn}
@@ -15,18 +15,18 @@ use Rattle.controller.specs.Reach.{Reachable, Made}
 -- ---- The machine after one call more
 
 pub after-power : (s : ℕ) (r : PowerOn) → r ≡ heldPower s → held (state s []) ≡ r .controller
-unfolding state
+unfolding run
 after-power s r e = sym (ap (λ (x : PowerOn). x .controller) e)
 
 module _ (c : Controller) (s : ℕ) (h : List Call) (e : held (state s h) ≡ c) where
   pub after-tick : (w : ℕ) (r : TickAnswer) → Made c (λ m. r ≡ heldTick (tickStep m w))
       → held (state s (tick w ∷ h)) ≡ r .controller
-  unfolding state
+  unfolding run
   after-tick w r p = sym (ap (λ (x : TickAnswer). x .controller) (p s h e))
 
   pub after-byte : (b : ℕ) (d : List ℕ) (r : ByteAnswer) → Made c (λ m. r ≡ heldByte (byteStep m b d))
       → held (state s (byte b d ∷ h)) ≡ r .controller
-  unfolding state
+  unfolding run
   after-byte b d r p = sym (ap (λ (x : ByteAnswer). x .controller) (p s h e))
 
 -- ---- Reachable controllers

@@ -10,7 +10,7 @@ use Rattle.machine.specs.State.{Machine, Waiting}
 use Rattle.machine.specs.Shares as shares
 use Rattle.laws.specs.Axes.{directed}
 use Rattle.machine.specs.Steps.{Tried, untried, failed, began}
-use Rattle.machine.specs.Calls.{Call, after, state}
+use Rattle.machine.specs.Calls.{Call, after, run, state}
 use Rattle.machine.specs.List.{Role, lineOf, takesEffect, moves, stopsIn, resetBy, distanceBy, minusBy, sent, isTick, begins, atStart, isPulse, storedAfter, stored, effect, lastDistance, lastMinus, started, distance, minus, master, counted, signed, stopBegun, goesOn, ends, latest, travel, gone, whole}
 use Rattle.machine.specs.Demand.{ShareLaw, Answer, Ended, Demand3}
 use Rattle.machine.proofs.BitLaws.{status-moving}
@@ -51,7 +51,7 @@ called-on s h x t =
     (t .waits) (called (state s h) x (t .good))
 
 told-none : (s : ℕ) → Told s []
-unfolding state stored lastDistance lastMinus started distance minus master counted signed stopBegun goesOn
+unfolding run stored lastDistance lastMinus started distance minus master counted signed stopBegun goesOn
 told-none s = record {
   good = record { axis = λ k h. share-none 0 0 (omega arith); under = λ q. true-false false q refl };
   waits = refl;
@@ -115,7 +115,7 @@ whole-end s h x t b e f = by-flag (isTick x)
     c = called-on s h x t
 
 told-next : (s : ℕ) (h : List Call) (x : Call) → Told s h → Told s (x ∷ h)
-unfolding state stored lastDistance lastMinus started distance minus master counted signed stopBegun goesOn
+unfolding run stored lastDistance lastMinus started distance minus master counted signed stopBegun goesOn
 told-next s h x t = record {
   good = c .good;
   waits = stored-next (state s h) x ∙ ap (storedAfter (state s h) x) (t .waits);
@@ -207,7 +207,7 @@ module _ (s : ℕ) (h : List Call) (t : Told s h) where
       }
 
 answer-holds : (s : ℕ) (h : List Call) (k : ℕ) → k < 5 → Answer s h k
-unfolding latest state
+unfolding latest run
 answer-holds s [] k l = record { single = omega arith; sign = λ q. absurd (omega arith) }
 answer-holds s (x ∷ h) k l =
     let c = called-on s h x (told s h) in
@@ -221,7 +221,7 @@ and-parts true b e = (refl, e)
 and-parts false b e = true-false false e refl
 
 ending-holds : (s : ℕ) (h : List Call) (k : ℕ) → k < 5 → ends s h ≡ true → stopBegun s h ≡ false → Ended s h k
-unfolding latest state ends stopBegun
+unfolding latest run ends stopBegun
 ending-holds s [] k l e f = true-false false e refl
 ending-holds s (x ∷ h) k l e f =
     let t = told s h in

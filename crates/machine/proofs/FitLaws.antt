@@ -65,7 +65,7 @@ use Rattle.machine.specs.Steps.{
   tooLarge,
   tickStep,
 }
-use Rattle.machine.specs.Calls.{Call, byte, tick, after, state}
+use Rattle.machine.specs.Calls.{Call, byte, tick, after, run, state}
 use Rattle.machine.proofs.ShareLaws.{share-none, share-grows, share-once}
 use Rattle.machine.proofs.RunLaws.{Good, step-pulse, runs-step, runs-end, true-false}
 use Rattle.machine.proofs.PositionLaws.{Room, lies, leaves-is, room-of}
@@ -524,6 +524,6 @@ fits-after m (tick w) f = fits-tick m w f
 
 -- Every machine that calls make from power-on.
 pub fits : (s : ℕ) (h : List Call) → Fits (state s h)
-unfolding state
+unfolding run
 fits s [] = fits-power s
 fits s (x ∷ h) = fits-after (state s h) x (fits s h)

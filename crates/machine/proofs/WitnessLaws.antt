@@ -2,13 +2,13 @@
 use mathlib.Core.Path.{refl}
 use Rattle.digits.specs.Digits.{numberOf}
 use Rattle.line.specs.Line.{judgeOf, judgeForm}
-use Rattle.machine.specs.Calls.{state}
+use Rattle.machine.specs.Calls.{run}
 use Rattle.machine.specs.List.{lastDistance, lastMinus, stored, started, ends, goesOn, stopBegun, distance, minus, master, counted, signed, latest}
 use Rattle.machine.specs.Witness.{begun, ordered, stopped, again, finished, dwelling, waiting, due, early, Witness}
 
 pub witness : Witness
 unfolding
-    numberOf judgeOf judgeForm state lastDistance lastMinus stored started ends goesOn stopBegun distance minus master
+    numberOf judgeOf judgeForm run lastDistance lastMinus stored started ends goesOn stopBegun distance minus master
     counted signed latest begun ordered stopped again finished dwelling waiting due early
 witness = record {
   resting = refl;

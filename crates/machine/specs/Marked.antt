@@ -1,14 +1,13 @@
 -- Paper 01, "Marked, and traps": what is proved together as one table. Power-on is with switch 0; lines are written as
 -- texts and go in byte by byte; ticks have the input word 0.
 use Prim.Native.Nat.{ℕ, zero, suc}
-use Prim.Native.Char.{code}
-use Prim.Native.String.{String, [] as []ᵀ, _∷_ as _∷ᵀ_}
+use Prim.Native.String.{String}
 use mathlib.Core.Bool.{Bool, true, cond, not}
 use mathlib.Core.List.{List, [], _∷_}
 use mathlib.Core.Path.{_≡_}
 use lib.Dec.{eqb}
 use lib.IntN.{negsuc, natAbs}
-use lib.ListN.{getD, replicate}
+use lib.ListN.{getD}
 use Rattle.laws.specs.Axes.{some, each}
 use Rattle.line.specs.declared.Command.the-variants as C
 use Rattle.line.specs.declared.Judged.the-variants.{Accepted}
@@ -16,40 +15,17 @@ use Rattle.line.specs.Line.{judgeOf}
 use Rattle.machine.specs.State.{Machine}
 use Rattle.machine.specs.Replies.{travelOf, positionOf}
 use Rattle.machine.specs.Steps.{powerOn, ByteAnswer, byteStep, TickAnswer, tickStep}
+use Rattle.machine.specs.Calls.{from, state, buffer, chars, bytes, lines, ticks}
 
 -- ---- Lines and ticks
 
--- The characters of a text.
-abbrev pub chars : String → List ℕ
-chars []ᵀ = []
-chars (c ∷ᵀ s) = code c ∷ chars s
-
--- A lent buffer of 120 bytes.
-abbrev pub buffer : List ℕ
-buffer = replicate 120 0
-
--- The machine after some bytes.
-abbrev pub hears : Machine → List ℕ → Machine
-hears m [] = m
-hears m (b ∷ bs) = hears (byteStep m b buffer .machine) bs
-
--- What a line is answered: the answer to its 0D.
+-- What a line is answered by the machine m: the answer to its 0D.
 abbrev pub told : Machine → String → ByteAnswer
-told m l = byteStep (hears m (chars l)) 13 buffer
-
--- The machine after some lines.
-abbrev pub lines : Machine → List String → Machine
-lines m [] = m
-lines m (l ∷ ls) = lines (told m l .machine) ls
+told m l = byteStep (from m (bytes (chars l) [])) 13 buffer
 
 -- Whether a tick answers a pulse for some axis.
 abbrev pub pulses : TickAnswer → Bool
 pulses a = some (λ k. not (eqb (natAbs (a .pulse k)) 0))
-
--- The machine after n ticks.
-abbrev pub ticks : ℕ → Machine → Machine
-ticks zero m = m
-ticks (suc n) m = ticks n (tickStep m 0 .machine)
 
 -- Tick i answered a: of it and those after it, n in all, the first that answers a pulse; 0 where none does.
 abbrev pub firstFrom : ℕ → ℕ → TickAnswer → ℕ
@@ -74,15 +50,15 @@ column k (row ∷ rows) = getD row k 0 ∷ column k rows
 
 -- Of the first n ticks after some lines the first that answers a pulse; 0 where none does.
 unfoldable pub firstPulse : ℕ → List String → ℕ
-firstPulse n ls = firstFrom n 1 (tickStep (lines (powerOn 0) ls) 0)
+firstPulse n ls = firstFrom n 1 (tickStep (state 0 (lines ls [])) 0)
 
 -- The travels of the five axes after each pulse, of the first n ticks after some lines.
 unfoldable pub travels : ℕ → List String → List (List ℕ)
-travels n ls = rowsFrom n (tickStep (lines (powerOn 0) ls) 0)
+travels n ls = rowsFrom n (tickStep (state 0 (lines ls [])) 0)
 
 -- The machine after some lines and n ticks.
 unfoldable pub ticked : ℕ → List String → Machine
-ticked n ls = ticks n (lines (powerOn 0) ls)
+ticked n ls = state 0 (ticks n 0 (lines ls []))
 
 -- V 1,000,000, M 1,000, and a 4,095 or 16.
 abbrev pub steep : List String

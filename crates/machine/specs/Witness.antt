@@ -1,8 +1,7 @@
 -- Lists of calls to which demand 3 has something to say. One: a start takes effect, its move is stopped by order 9 at a
 -- crooked pulse, and another runs to its end. Distances 5, 2 and minus 3, master 0, switch 0. Another, with a dwell of
 -- 1 ms: a start stored in the dwell begins with the master that it names, and one fails as its dwell runs out.
-use Prim.Native.Nat.{ℕ, zero, suc}
-use Prim.Native.String.{String}
+use Prim.Native.Nat.{ℕ}
 use mathlib.Core.Bool.{Bool, true, false}
 use mathlib.Core.List.{List, [], _∷_}
 use mathlib.Core.Path.{_≡_}
@@ -10,25 +9,10 @@ use lib.IntN.{ℤ, pos, negsuc}
 use Rattle.laws.specs.Axes.{each}
 use Rattle.machine.specs.State.{none, start}
 use Rattle.machine.specs.Steps.{tickStep}
-use Rattle.machine.specs.Calls.{Call, byte, tick, state}
+use Rattle.machine.specs.Calls.{Call, tick, state, line, ticks}
 use Rattle.machine.specs.List.{stored, started, ends, goesOn, stopBegun, distance, minus, master, travel, counted, position, signed, latest}
-use Rattle.machine.specs.Marked.{chars, buffer}
 
--- ---- Lists of calls, the latest first
-
--- Bytes, each with a lent buffer.
-abbrev pub bytes : List ℕ → List Call → List Call
-bytes [] h = h
-bytes (b ∷ bs) h = bytes bs (byte b buffer ∷ h)
-
--- A line: its characters and 0D.
-abbrev pub line : String → List Call → List Call
-line l h = byte 13 buffer ∷ bytes (chars l) h
-
--- n ticks with the input word 0.
-abbrev pub ticks : ℕ → List Call → List Call
-ticks zero h = h
-ticks (suc n) h = tick 0 ∷ ticks n h
+-- ---- The lists, the latest call first; ticks have the input word 0
 
 -- Distances, speed and slope.
 abbrev pub prepared : List Call
@@ -40,11 +24,11 @@ begun = line "Q080" prepared
 
 unfoldable pub ordered : List Call
 unfolding begun
-ordered = line "Q09" (ticks 199 begun)
+ordered = line "Q09" (ticks 199 0 begun)
 
 unfoldable pub stopped : List Call
 unfolding ordered
-stopped = ticks 199 ordered
+stopped = ticks 199 0 ordered
 
 unfoldable pub again : List Call
 unfolding stopped
@@ -52,13 +36,13 @@ again = line "Q080" stopped
 
 unfoldable pub finished : List Call
 unfolding again
-finished = ticks 480 again
+finished = ticks 480 0 again
 
 -- A move of one pulse that axis 2 makes as master, ended in its 207th tick, with a dwell of 1 ms; then a start with
 -- master 2 is stored (Q08A), and one with master 1 (Q089), which replaces it.
 unfoldable pub dwelling : List Call
 dwelling =
-    ticks 207
+    ticks 207 0
     (line "Q082" (line "P0A00001" (line "P0900FFF" (line "P08F4240" (line "P0280001" [])))))
 
 unfoldable pub waiting : List Call
@@ -69,11 +53,11 @@ waiting = line "Q089" (line "Q08A" dwelling)
 -- dwell runs out in its 250th tick.
 unfoldable pub due : List Call
 unfolding waiting
-due = ticks 249 (line "P0100001" waiting)
+due = ticks 249 0 (line "P0100001" waiting)
 
 unfoldable pub early : List Call
 unfolding waiting
-early = ticks 249 waiting
+early = ticks 249 0 waiting
 
 -- ---- What demand 3 reads off a list
 

@@ -18,7 +18,7 @@ use Rattle.reply.specs.declared.Position.{Position}
 use Rattle.machine.specs.State.{Machine}
 use Rattle.machine.specs.Stops.{status}
 use Rattle.machine.specs.Steps.{byteStep, tickStep, bufferAfter}
-use Rattle.machine.specs.Calls.{Call, byte, tick, state}
+use Rattle.machine.specs.Calls.{Call, byte, tick, run, state}
 use Rattle.controller.specs.declared.Controller.{Controller}
 use Rattle.controller.specs.declared.PowerOn.{PowerOn}
 use Rattle.controller.specs.declared.ByteAnswer.{ByteAnswer}
@@ -139,7 +139,7 @@ record Comes (m : Machine) : Type 0 where
   is : state switch history ≡ m
 
 comes-tick : (w : ℕ) (x : Seen) → Comes (x .machine) → Comes (ticked w x .machine)
-unfolding state
+unfolding run
 comes-tick w x q = record {
   switch = q .switch;
   history = tick w ∷ q .history;
@@ -152,7 +152,7 @@ comes-ticks zero w x q = q
 comes-ticks (suc n) w x q = comes-tick w (ticks n w x) (comes-ticks n w x q)
 
 comes-byte : (b : ℕ) (whole : Bool) (d : List ℕ) (x : Seen) → Comes (x .machine) → Comes (sent b whole d x .machine)
-unfolding state
+unfolding run
 comes-byte b whole d x q = record {
   switch = q .switch;
   history = byte b d ∷ q .history;
@@ -167,7 +167,7 @@ comes-call kind value count x q =
     (λ f. comes-byte (value % 256) (ltb count 256) (replicate (count % 256) 0) x q) (λ f. q))
 
 comes-after : (s : ℕ) (bs : List ℕ) (j : ℕ) → Comes (seenAfter s bs j .machine)
-unfolding seenAfter state
+unfolding seenAfter run
 comes-after s bs zero = record { switch = s; history = []; is = refl }
 comes-after s bs (suc j) = comes-call _ _ _ (seenAfter s bs j) (comes-after s bs j)
 
