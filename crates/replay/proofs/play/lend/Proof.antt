@@ -18,7 +18,7 @@ cast-mix c =
     let r = l .pre .0 in
     let n : a .result .length ≤ length (l .args .buf .now) =
     reply-room (state (r .switch) (r .history)) (l .args .b) (l .args .buf .now) (a .result) (a .last .1 .0)
-    (a .ensures .0 (r .switch) (r .history) (r .made)) (a .ensures .1 (r .switch) (r .history) (r .made))
+    (a .ensures .0 (r .switch) (r .history) (r .made)) (a .ensures .1 .0 (r .switch) (r .history) (r .made))
     (a .kept .1 .0) in
     record { fits = omega (arith, l .pre .1) }
 
@@ -40,7 +40,7 @@ returns c =
     let a = n .before .before .before .before in
     let l = a .before .before .before .before .args in
     λ s h e. byte-whole (state s h) (l .b) (l .buf .now) (l .was .digest) (a .byte .result) (a .byte .last .1 .0) _ _
-    (a .byte .ensures .0 s h e) (a .byte .ensures .1 s h e) (n .mix .ensures) (l .whole) (c .before .before .if1 .taken)
+    (a .byte .ensures .0 s h e) (a .byte .ensures .1 .0 s h e) (n .mix .ensures) (l .whole) (c .before .before .if1 .taken)
     (c .bytes .ensures)
 
 front-requires : tie.Need-front-requires
@@ -58,7 +58,7 @@ returns-2 c =
     let a = n .before .before .before .before in
     let l = a .before .before .before .before .args in
     λ s h e. byte-reply (state s h) (l .b) (l .buf .now) (l .was .digest) (a .byte .result) (a .byte .last .1 .0) _ _
-    (a .byte .ensures .0 s h e) (a .byte .ensures .1 s h e) (n .mix .ensures) (l .whole) _
+    (a .byte .ensures .0 s h e) (a .byte .ensures .1 .0 s h e) (n .mix .ensures) (l .whole) _
     (c .before .before .before .if1 .left) (a .byte .kept .1 .0) (c .before .front .ensures) (c .bytes2 .ensures)
 
 pub lend-spec : {M : Type 1} → statement M

@@ -35,7 +35,7 @@ returns c =
     let ts = c .before .before .before .before .before .before .travels in
     let ps = c .before .before .before .before .before .positions in
     λ s h e. read-is (state s h) _ (l .args .was .digest) (ts .result) (ps .result) _ _ _ _ _ e (ts .ensures s h e)
-    (ps .ensures s h e) (c .before .before .before .status .ensures s h e) (c .before .before .speed .ensures s h e)
+    (ps .ensures .0 s h e) (c .before .before .before .status .ensures s h e) (c .before .before .speed .ensures s h e)
     (c .before .slope .ensures s h e) (c .before .before .before .before .axes .ensures) (c .mix .ensures)
 
 pub read-spec : {M : Type 1} → statement M

@@ -18,7 +18,7 @@ returns : tie.Need-returns
 returns c =
     let l = c .before .before .before .before .before .before in
     let a = c .before .before .before .before .tick in
-    λ s h e. tick-is (state s h) (l .args .word) (l .args .was .digest) (a .result) _ _ (a .ensures s h e)
+    λ s h e. tick-is (state s h) (l .args .word) (l .args .was .digest) (a .result) _ _ (a .ensures .0 s h e)
     (c .before .before .tick-code .ensures) (c .before .mix .ensures)
 
 pub tick-spec : {M : Type 1} → statement M
