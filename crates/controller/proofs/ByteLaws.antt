@@ -19,7 +19,7 @@ use Rattle.line.specs.Fits.{CommandFits}
 use Rattle.outputs.specs.Outputs.{restOf, fireOf}
 use Rattle.reply.specs.declared.Travel.{Travel}
 use Rattle.reply.specs.declared.Position.{Position}
-use Rattle.reply.specs.Reply.{travelDigits, twenty, bias, replyOf, toldBy, axesFit}
+use Rattle.reply.specs.Reply.{travelDigits, twenty, bias, origin, replyOf, toldBy, axesFit}
 use Rattle.reply.proofs.Replies.{reply-same}
 use Rattle.machine.specs.State.{Machine, withFlags, withMove, withWatch}
 use Rattle.machine.specs.Stops.{status, blocked, stopping, marks}
@@ -213,5 +213,5 @@ reply-is m c digits ident f h =
     positions : (k : ℕ) → k < 5 → toldBy (readingsOf (held m)) .position k ≡ toldOf m .position k
     positions k l =
         ap (λ (p : Position). twenty (pos (p .0) +ℤ negsuc 524287))
-        (each-at (λ j. record { 0 = bias (m .position j) }) (record { 0 = 0 }) k l)
+        (each-at (λ j. record { 0 = bias (m .position j) }) origin k l)
         ∙ ap twenty (unbiased (m .position k) (f .places .inside k l))

@@ -30,7 +30,8 @@ use Rattle.line.specs.Line.{
 pub char-absent : (l : List ℕ) (i : ℕ) → length l ≤ i → 48 ≡ charAt l i
 char-absent l i h = sym (List·getD-eq-default l 48 h)
 
-any-default : (l : List ℕ) (i d e : ℕ) → i < length l → getD l i d ≡ getD l i e
+-- Of a place that is there any default gives the same.
+pub any-default : {A : Type 0} (l : List A) (i : ℕ) (d e : A) → i < length l → getD l i d ≡ getD l i e
 any-default [] i d e h = absurd (omega arith)
 any-default (x ∷ l) zero d e h = refl
 any-default (x ∷ l) (suc i) d e h = any-default l i d e (le-of-suc-le-suc h)

@@ -5,6 +5,7 @@ use Prim.Native.String as S
 use mathlib.Core.Bool.{true, false}
 use mathlib.Core.List.{List, [], _∷_, _++_}
 use mathlib.Core.Path.{_≡_, refl}
+use lib.IntN.{pos, negsuc}
 use Rattle.digits.specs.Digits.{sixOf}
 use Rattle.digits.specs.declared.Ident.the-variants.{Absent, Given}
 use Rattle.block.specs.Block.{blockOf, rowOf}
@@ -31,10 +32,14 @@ readings = record {
 }
 
 pub record Examples : Type 0 where
+  pub least : positionOf (record { 0 = 0 }) ≡ negsuc 524287
+  pub most : positionOf (record { 0 = 1048575 }) ≡ pos 524287
   pub minus-one : twenty (positionOf (record { 0 = 524287 })) ≡ 0xFFFFF
   pub minus-ten : twenty (positionOf (record { 0 = 524278 })) ≡ 0xFFFF6
   pub travel : replyOf (toldBy readings) (C.Travel 2) 0x200000 Absent ≡ ended "S0280003"
   pub position : replyOf (toldBy readings) (C.Position 1) 0x100000 (Given 49) ≡ ended "s01FFFF61"
+  pub no-travel : replyOf (toldBy readings) (C.Travel 5) 0x500000 Absent ≡ ended "S0500000"
+  pub no-position : replyOf (toldBy readings) (C.Position 5) 0x500000 Absent ≡ ended "s0500000"
   pub echo : replyOf (toldBy readings) C.ResetPositions 0xB1FA00 Absent ≡ ended "S0B1FA00"
   pub setting : replyOf (toldBy readings) (C.Speed 1) 0x800001 Absent ≡ ended "U0000000"
   pub inputs : replyOf (toldBy readings) C.Inputs 0 Absent ≡ ended "R0001000"
@@ -49,10 +54,14 @@ pub examples : Examples
 unfolding replyOf refusalOf blockOf rowOf sixOf
 examples =
     record {
+      least = refl;
+      most = refl;
       minus-one = refl;
       minus-ten = refl;
       travel = refl;
       position = refl;
+      no-travel = refl;
+      no-position = refl;
       echo = refl;
       setting = refl;
       inputs = refl;

@@ -101,16 +101,21 @@ abbrev pub bias : ℤ → ℕ
 bias (pos n) = n + 524288
 bias (negsuc n) = 524287 - n
 
--- The position that is held so.
+-- The position that is held so: what is held less 524,288, whatever is held.
 abbrev pub positionOf : Position → ℤ
 positionOf p = pos (p .0) +ℤ negsuc 524287
 
--- What readings tell: of a travel its low 19 bits.
+-- Position 0, as it is held.
+abbrev pub origin : Position
+origin = record { 0 = 524288 }
+
+-- What readings tell: of a travel its low 19 bits. An axis that is not there reads as one that never moved: plus,
+-- travel 0, position 0.
 abbrev pub toldBy : Readings → Told
 toldBy r = record {
   switch = r .switch;
   travel = λ k. travelDigits (getD (r .minus) k false) (getD (r .travels) k (record { 0 = 0 }) .0 % 524288);
-  position = λ k. twenty (positionOf (getD (r .positions) k (record { 0 = 0 })));
+  position = λ k. twenty (positionOf (getD (r .positions) k origin));
   status = r .status;
   inputs = r .inputs;
 }

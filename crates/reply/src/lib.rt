@@ -5,7 +5,7 @@ ghost use mathlib.Core.Bool.{false};
 ghost use mathlib.Core.Path.{_≡_};
 ghost use lib.ListN.{getD};
 ghost use Rattle.block.specs.Block.{laid, laidLength};
-ghost use Rattle.reply.specs.Reply.{coded, toldBy, answerOf, replyOf, refusalIdent, refusalOf};
+ghost use Rattle.reply.specs.Reply.{coded, origin, positionOf, toldBy, answerOf, replyOf, refusalIdent, refusalOf};
 use block::Block;
 use digits::Ident;
 use line::Command;
@@ -27,6 +27,16 @@ pub struct Travel(pub u32);
 // The signed pulses of an axis since power-on or the last position reset, with 524,288 added.
 pub struct Position(pub u32);
 
+impl Position {
+    // The position itself, a signed number. An i64 has room for it whatever u32 is held.
+    pub fn signed(self) -> i64
+        ensures { λ r. ⌜ r ≡ positionOf self ⌝ }
+    {
+        let held = self.0;
+        held as i64 - HALF as i64
+    }
+}
+
 // What replies are made from.
 pub struct Readings {
     pub travels: [Travel; 5],
@@ -45,7 +55,7 @@ enum Answer {
     All,
 }
 
-// An axis's minus bit. (No line names an axis that is not there; it reads as one that never moved.)
+// An axis's minus bit. (No line names an axis that is not there: it reads as one that never moved, plus and at 0.)
 fn minus_at(minus: [bool; 5], axis: u8) -> bool
     ensures { λ r. ⌜ r ≡ getD minus axis false ⌝ }
 {
@@ -67,10 +77,10 @@ fn travel_at(travels: [Travel; 5], axis: u8) -> Travel
 
 // An axis's position.
 fn position_at(positions: [Position; 5], axis: u8) -> Position
-    ensures { λ r. ⌜ r ≡ getD positions axis (record { 0 = 0 }) ⌝ }
+    ensures { λ r. ⌜ r ≡ getD positions axis origin ⌝ }
 {
     if AXES <= axis {
-        return Position(0);
+        return Position(HALF);
     }
     positions[axis as usize]
 }
