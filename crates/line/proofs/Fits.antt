@@ -1,5 +1,5 @@
--- Every judged line fits: the fields of an accepted line's command are in range, and a line is turned away by a number
--- from 4 to 10. Assumes nothing.
+-- Every judged line fits: the fields of an accepted line's command are in range, an order's digits are its own, and a
+-- line is turned away by a number from 4 to 10. Assumes nothing.
 use Prim.Native.Nat.{ℕ, _%_, _≤_, _<_}
 use native.Mathlib.Omega.{arith}
 use mathlib.Core.Bool.{Bool, true, false, not, _&&_, _||_, false≢true}
@@ -15,9 +15,10 @@ use Rattle.digits.specs.declared.Number.the-variants.{NotDigits, Value}
 use Rattle.digits.proofs.Laws.{under-six}
 use Rattle.line.specs.declared.form.Form.{Form}
 use Rattle.line.specs.declared.form.Form.the-variants as F
+use Rattle.line.specs.declared.Command.{Command}
 use Rattle.line.specs.declared.Judged.{Judged}
 use Rattle.line.specs.declared.Judged.the-variants.{Accepted, Refused}
-use Rattle.line.specs.Fits.{CommandFits, JudgedFits}
+use Rattle.line.specs.Fits.{CommandFits, OrderFits, JudgedFits}
 use Rattle.line.specs.Line.{
   charAt,
   isLetter,
@@ -74,69 +75,69 @@ master s = either (leb s 4) (isWithin s 8 12) (λ e. low (leb-true s 4 e)) (λ e
 
 -- ---- rows
 
--- A row's axis is one of five.
-abbrev pub FormFits : Form → Type 0
-FormFits F.Unlisted = 0 < 1
-FormFits (F.DistanceForm k) = k < 5
-FormFits F.SpeedForm = 0 < 1
-FormFits F.SlopeForm = 0 < 1
-FormFits F.DwellForm = 0 < 1
-FormFits F.WatchForm = 0 < 1
-FormFits F.PolarityForm = 0 < 1
-FormFits (F.TravelForm k) = k < 5
-FormFits F.StatusForm = 0 < 1
-FormFits F.StartForm = 0 < 1
-FormFits F.StopForm = 0 < 1
-FormFits F.ClearForm = 0 < 1
-FormFits F.ResetForm = 0 < 1
-FormFits F.LowOnForm = 0 < 1
-FormFits F.HighOnForm = 0 < 1
-FormFits (F.PositionForm k) = k < 5
-FormFits F.EverythingForm = 0 < 1
-FormFits F.OutputsForm = 0 < 1
+-- A row's axis is one of five, and the code k of an order is the order's.
+abbrev FormFits : ℕ → Form → Type 0
+FormFits k F.Unlisted = 0 < 1
+FormFits k (F.DistanceForm axis) = axis < 5
+FormFits k F.SpeedForm = 0 < 1
+FormFits k F.SlopeForm = 0 < 1
+FormFits k F.DwellForm = 0 < 1
+FormFits k F.WatchForm = 0 < 1
+FormFits k F.PolarityForm = 0 < 1
+FormFits k (F.TravelForm axis) = axis < 5
+FormFits k F.StatusForm = 0 < 1
+FormFits k F.StartForm = k ≡ 8
+FormFits k F.StopForm = k ≡ 9
+FormFits k F.ClearForm = k ≡ 10
+FormFits k F.ResetForm = k ≡ 11
+FormFits k F.LowOnForm = k ≡ 13
+FormFits k F.HighOnForm = k ≡ 14
+FormFits k (F.PositionForm axis) = axis < 5
+FormFits k F.EverythingForm = 0 < 1
+FormFits k F.OutputsForm = 0 < 1
 
 always : 0 < 1
 always = omega arith
 
-P-fits : (k : ℕ) → FormFits (formP k)
+P-fits : (k : ℕ) → FormFits k (formP k)
 P-fits k =
-    by-lt FormFits k 5 _ _ (λ h. h)
-    λ _. by-eq FormFits k 8 _ _ (λ _. always)
-    λ _. by-eq FormFits k 9 _ _ (λ _. always)
-    λ _. by-eq FormFits k 10 _ _ (λ _. always)
-    λ _. by-eq FormFits k 11 _ _ (λ _. always)
-    λ _. by-eq FormFits k 12 _ _ (λ _. always)
+    by-lt (FormFits k) k 5 _ _ (λ h. h)
+    λ _. by-eq (FormFits k) k 8 _ _ (λ _. always)
+    λ _. by-eq (FormFits k) k 9 _ _ (λ _. always)
+    λ _. by-eq (FormFits k) k 10 _ _ (λ _. always)
+    λ _. by-eq (FormFits k) k 11 _ _ (λ _. always)
+    λ _. by-eq (FormFits k) k 12 _ _ (λ _. always)
     λ _. always
 
-Q-fits : (k : ℕ) → FormFits (formQ k)
+Q-fits : (k : ℕ) → FormFits k (formQ k)
 Q-fits k =
-    by-lt FormFits k 5 _ _ (λ h. h)
-    λ _. by-eq FormFits k 6 _ _ (λ _. always)
-    λ _. by-eq FormFits k 8 _ _ (λ _. always)
-    λ _. by-eq FormFits k 9 _ _ (λ _. always)
-    λ _. by-eq FormFits k 10 _ _ (λ _. always)
-    λ _. by-eq FormFits k 11 _ _ (λ _. always)
-    λ _. by-eq FormFits k 13 _ _ (λ _. always)
-    λ _. by-eq FormFits k 14 _ _ (λ _. always)
+    by-lt (FormFits k) k 5 _ _ (λ h. h)
+    λ _. by-eq (FormFits k) k 6 _ _ (λ _. always)
+    λ _. by-eq (FormFits k) k 8 _ _ (λ e. e)
+    λ _. by-eq (FormFits k) k 9 _ _ (λ e. e)
+    λ _. by-eq (FormFits k) k 10 _ _ (λ e. e)
+    λ _. by-eq (FormFits k) k 11 _ _ (λ e. e)
+    λ _. by-eq (FormFits k) k 13 _ _ (λ e. e)
+    λ _. by-eq (FormFits k) k 14 _ _ (λ e. e)
     λ _. always
 
-small-fits : (k : ℕ) → FormFits (formq k)
+small-fits : (k : ℕ) → FormFits k (formq k)
 small-fits k =
-    by-lt FormFits k 5 _ _ (λ h. h)
-    λ _. by-eq FormFits k 8 _ _ (λ _. always)
+    by-lt (FormFits k) k 5 _ _ (λ h. h)
+    λ _. by-eq (FormFits k) k 8 _ _ (λ _. always)
     λ _. always
 
-pub form-fits : (letter count k : ℕ) → FormFits (formOf letter count k)
+form-fits : (letter count k : ℕ) → FormFits k (formOf letter count k)
 form-fits letter count k =
-    by-eq FormFits letter 87 _ _ (λ _. always)
-    λ _. by-eq FormFits count 0 _ _ (λ _. always)
-    λ _. by-eq FormFits letter 80 _ _ (λ _. P-fits k)
-    λ _. by-eq FormFits letter 81 _ _ (λ _. Q-fits k)
+    by-eq (FormFits k) letter 87 _ _ (λ _. always)
+    λ _. by-eq (FormFits k) count 0 _ _ (λ _. always)
+    λ _. by-eq (FormFits k) letter 80 _ _ (λ _. P-fits k)
+    λ _. by-eq (FormFits k) letter 81 _ _ (λ _. Q-fits k)
     λ _. small-fits k
 
 -- ---- commands
 
-pub command-fits : (form : Form) (count n : ℕ) → FormFits form → n < 16777216 → inRange form n ≡ true
+command-fits : (form : Form) (count n : ℕ) → FormFits (code n) form → n < 16777216 → inRange form n ≡ true
     → CommandFits (commandOf form count n)
 command-fits F.Unlisted count n f h e = always
 command-fits (F.DistanceForm k) count n f h e = (f, omega arith)
@@ -156,6 +157,27 @@ command-fits F.HighOnForm count n f h e = e
 command-fits (F.PositionForm k) count n f h e = f
 command-fits F.EverythingForm count n f h e = always
 command-fits F.OutputsForm count n f h e = by-eq CommandFits count 0 _ _ (λ _. always) (λ _. h)
+
+order-fits : (form : Form) (count n : ℕ) → FormFits (code n) form → inRange form n ≡ true
+    → OrderFits (commandOf form count n) n
+order-fits F.Unlisted count n f e = always
+order-fits (F.DistanceForm k) count n f e = always
+order-fits F.SpeedForm count n f e = always
+order-fits F.SlopeForm count n f e = always
+order-fits F.DwellForm count n f e = always
+order-fits F.WatchForm count n f e = always
+order-fits F.PolarityForm count n f e = always
+order-fits (F.TravelForm k) count n f e = always
+order-fits F.StatusForm count n f e = always
+order-fits F.StartForm count n f e = (f, e)
+order-fits F.StopForm count n f e = f
+order-fits F.ClearForm count n f e = f
+order-fits F.ResetForm count n f e = f
+order-fits F.LowOnForm count n f e = (f, e)
+order-fits F.HighOnForm count n f e = (f, e)
+order-fits (F.PositionForm k) count n f e = always
+order-fits F.EverythingForm count n f e = always
+order-fits F.OutputsForm count n f e = by-eq (λ (c : Command). OrderFits c n) count 0 _ _ (λ _. always) (λ _. always)
 
 -- ---- lines
 
@@ -181,12 +203,15 @@ first-fit a b c d rest p =
     λ _. turned-fits 7 d rest (omega arith, omega arith)
     λ _. p
 
-pub judge-form-fits : (form : Form) (count n : ℕ) → FormFits form → n < 16777216 → JudgedFits (judgeForm form count n)
+judge-form-fits : (form : Form) (count n : ℕ) → FormFits (code n) form → n < 16777216
+    → JudgedFits (judgeForm form count n)
 unfolding judgeForm
 judge-form-fits form count n f h =
     last-fit (not (isListed form)) (not (hasCount form count)) (not (inRange form n))
     (Accepted (commandOf form count n) n)
-    λ e. record { command = command-fits form count n f h (not-false (inRange form n) e); digits = h }
+    λ e.
+    let q = not-false (inRange form n) e in
+    record { command = command-fits form count n f h q; digits = h; order = order-fits form count n f q }
 
 value-under : (b : ℕ) (x : Number) → 0 < b → Under b x → valueOf x < b
 value-under b NotDigits p h = p

@@ -25,7 +25,7 @@ const FOUR_DIGITS: u32 = 65536;
 const MINUS: u32 = 524288;
 
 // A row of the table. Names are those of the commands; Unlisted stands for a code that is absent or not in the table.
-pub enum Form {
+pub(crate) enum Form {
     Unlisted,
     DistanceForm(u8),
     SpeedForm,

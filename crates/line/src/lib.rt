@@ -21,12 +21,13 @@ ghost use Rattle.line.specs.Line.{
   judgeValue,
   judgeOf,
 };
+ghost use Rattle.line.specs.Verdict.{verdictOf, lineVerdict};
 use crate::form::Form;
 use digits::Digit;
 use digits::Ident;
 use digits::Number;
 
-pub mod form;
+mod form;
 
 // What a line asks for, each form of chapter 7.
 pub enum Command {
@@ -210,6 +211,7 @@ pub fn ident(cs: [u8; 10], count: u8) -> Ident
 // The line judged: its first ten characters (fewer if it has fewer), which tell an over-long line from a whole one.
 pub fn judge(cs: [u8; 10], count: u8) -> Judged
     ensures { λ r. ⌜ r ≡ judgeOf (take count cs) ⌝ }
+    ensures { λ r. ⌜ verdictOf r ≡ lineVerdict (take count cs) ⌝ }
 {
     if count < 2 {
         return Judged::Refused(4);

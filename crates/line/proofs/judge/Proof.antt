@@ -17,14 +17,15 @@ use Rattle.line.proofs.Laws.{
   wrong-ident,
   then-digits,
 }
+use Rattle.line.proofs.Verdict.{judged}
 use Rattle.line.proofs.judge.Statement.{statement}
 use Rattle.line.proofs.judge.Tie as tie
 
 returns : tie.Need-returns
-returns c = too-short _ (rw length-take (omega arith))
+returns c = judged _ (too-short _ (rw length-take (omega arith)))
 
 returns-2 : tie.Need-returns-2
-returns-2 c = too-long _ (rw length-take (omega arith))
+returns-2 c = judged _ (too-long _ (rw length-take (omega arith)))
 
 char-at-requires : tie.Need-char-at-requires
 char-at-requires c κs = search needs
@@ -38,8 +39,8 @@ returns-3 c =
     let a = t .before .before .before .before .before .args in
     let l = take (a .count) (a .cs) in
     let n : length l ≡ a .count = length-take (a .count) (a .cs) ∙ omega arith in
-    wrong-letter l (omega (arith, n)) (omega (arith, n))
-    (was-false isLetter (t .before .is-letter .ensures) (t .before .before .char-at .ensures) (t .if3 .taken))
+    judged l (wrong-letter l (omega (arith, n)) (omega (arith, n))
+    (was-false isLetter (t .before .is-letter .ensures) (t .before .before .char-at .ensures) (t .if3 .taken)))
 
 char-at-requires-2 : tie.Need-char-at-requires-2
 char-at-requires-2 c κs = search needs
@@ -54,9 +55,9 @@ returns-4 c =
     let a = t .before .before .before .before .before .args in
     let l = take (a .count) (a .cs) in
     let n : length l ≡ a .count = length-take (a .count) (a .cs) ∙ omega arith in
-    wrong-switch l (omega (arith, n)) (omega (arith, n))
+    judged l (wrong-switch l (omega (arith, n)) (omega (arith, n))
     (was-true isLetter (t .before .is-letter .ensures) (t .before .before .char-at .ensures) (t .if3 .left))
-    (was-false isSwitch (s .before .is-switch .ensures) (s .before .before .char-at2 .ensures) (s .if4 .taken))
+    (was-false isSwitch (s .before .is-switch .ensures) (s .before .before .char-at2 .ensures) (s .if4 .taken)))
 
 char-at-requires-3 : tie.Need-char-at-requires-3
 char-at-requires-3 c κs = search needs
@@ -72,11 +73,11 @@ returns-5 c =
     let a = t .before .before .before .before .before .args in
     let l = take (a .count) (a .cs) in
     let n : length l ≡ a .count = length-take (a .count) (a .cs) ∙ omega arith in
-    wrong-ident l (omega (arith, n)) (omega (arith, n))
+    judged l (wrong-ident l (omega (arith, n)) (omega (arith, n))
     (was-true isLetter (t .before .is-letter .ensures) (t .before .before .char-at .ensures) (t .if3 .left))
     (was-true isSwitch (s .before .is-switch .ensures) (s .before .before .char-at2 .ensures) (s .if4 .left))
     (was-false (λ (k : ℕ). isIdent (digitOf k)) (i .before .is-ident .ensures) (i .before .before .char-at3 .ensures)
-    (i .if5 .taken))
+    (i .if5 .taken)))
 
 read-digits-requires : tie.Need-read-digits-requires
 read-digits-requires c κs = search needs
@@ -99,12 +100,12 @@ returns-6 c =
     let i = c .before .before .before in
     let s = i .before .before .before in
     let t = s .before .before .before in
-    then-digits l low high
+    judged l (then-digits l low high
     (was-true isLetter (t .before .is-letter .ensures) (t .before .before .char-at .ensures) (t .if3 .left))
     (was-true isSwitch (s .before .is-switch .ensures) (s .before .before .char-at2 .ensures) (s .if4 .left))
     (was-true (λ (k : ℕ). isIdent (digitOf k)) (i .before .is-ident .ensures) (i .before .before .char-at3 .ensures)
     (i .if5 .left))
-    (cc n)
+    (cc n))
 
 pub judge-spec : {M : Type 1} → statement M
 judge-spec =

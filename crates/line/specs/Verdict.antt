@@ -1,0 +1,90 @@
+-- A judgement in the paper's terms ("Turned away", 4 to 10): its number and values for each case, and what they are for
+-- every line.
+use Prim.Native.Nat.{ℕ}
+use mathlib.Core.Bool.{Bool, cond, not, _||_}
+use mathlib.Core.List.{List, [], _∷_}
+use lib.Dec.{ltb, eqb}
+use lib.ListN.{length}
+use Rattle.digits.specs.Digits.{digitOf, numberOf}
+use Rattle.line.specs.declared.Command.{Command}
+use Rattle.line.specs.declared.Judged.{Judged}
+use Rattle.line.specs.declared.Judged.the-variants.{Accepted, Refused}
+use Rattle.line.specs.Line.{
+  charAt,
+  isLetter,
+  isSwitch,
+  isIdent,
+  isNumber,
+  valueOf,
+  digitChars,
+  digitCount,
+  code,
+  formOf,
+  isListed,
+  hasCount,
+  inRange,
+  commandOf,
+}
+
+-- What an accepted line asks for: its command and its six digits, absent ones 0.
+pub record Order : Type 0 where
+  pub command : Command
+  pub digits : ℕ
+
+-- A number, 0 where no rule turns the line away, and the order of a line that is accepted.
+pub record Verdict : Type 0 where
+  pub number : ℕ
+  pub orders : List Order
+
+-- The paper's number and values for each case of a judgement: 0 with the command and its digits, or the number alone.
+abbrev pub verdictOf : Judged → Verdict
+verdictOf (Accepted command digits) = record {
+  number = 0;
+  orders = record { command = command; digits = digits } ∷ [];
+}
+verdictOf (Refused number) = record { number = number; orders = [] }
+
+-- A rule: its number, and whether it applies.
+pub record Rule : Type 0 where
+  pub number : ℕ
+  pub applies : Bool
+
+-- In checking order: the first rule that applies gives the number.
+abbrev pub firstOf : List Rule → ℕ
+firstOf [] = 0
+firstOf (r ∷ rs) = cond (r .applies) (r .number) (firstOf rs)
+
+-- 4. Under 2 or over 9 characters. 5. First character not P, Q, q, W. 6. Second not 0 or 4.
+-- 7. A later character is no digit, or the ninth no identification. 8. P, Q, q: code absent or unlisted.
+-- 9. Digit count not the code's. 10. Value outside its range.
+abbrev pub rules : List ℕ → List Rule
+rules cs =
+    let digits = numberOf (digitChars cs) in
+    let n = valueOf digits in
+    let form = formOf (charAt cs 0) (digitCount cs) (code n) in
+    record { number = 4; applies = ltb (length cs) 2 || ltb 9 (length cs) }
+    ∷ record { number = 5; applies = not (isLetter (charAt cs 0)) }
+    ∷ record { number = 6; applies = not (isSwitch (charAt cs 1)) }
+    ∷ record { number = 7; applies = not (isIdent (digitOf (charAt cs 8))) || not (isNumber digits) }
+    ∷ record { number = 8; applies = not (isListed form) }
+    ∷ record { number = 9; applies = not (hasCount form (digitCount cs)) }
+    ∷ record { number = 10; applies = not (inRange form n) }
+    ∷ []
+
+-- The line's number.
+unfoldable pub lineNumber : List ℕ → ℕ
+lineNumber cs = firstOf (rules cs)
+
+-- The line's order, from its row of the table and its digits.
+unfoldable pub lineOrder : List ℕ → Order
+lineOrder cs =
+    let n = valueOf (numberOf (digitChars cs)) in
+    let form = formOf (charAt cs 0) (digitCount cs) (code n) in
+    record { command = commandOf form (digitCount cs) n; digits = n }
+
+-- Every line: its number, and its order where that is 0.
+abbrev pub lineVerdict : List ℕ → Verdict
+lineVerdict cs = record {
+  number = lineNumber cs;
+  orders = cond (eqb (lineNumber cs) 0) (lineOrder cs ∷ []) [];
+}
