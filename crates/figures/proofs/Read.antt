@@ -4,16 +4,15 @@ use mathlib.Core.Path.{_≡_, refl, sym, ap, _∙_, subst}
 use Prim.Native.Nat.{ℕ, _+_, _*_, _/_, _%_, _≤_, _<_}
 use native.Mathlib.Nat.{mul-pos, mul-comm, mul-assoc, mul-div-cancel, mul-mod-left, div-add-mod'}
 use native.Mathlib.Omega.{arith}
-use mathlib.Core.Bool.{Bool, true, false, _&&_, true≢false, false≢true}
+use mathlib.Core.Bool.{Bool, true, false, _&&_, true≢false}
 use lib.IntN.{ℤ}
 use lib.Dec.{T, leb, eqb, eqb→eq, leb→le, le→leb}
+use lib.ListN.{length, getD}
 use lib.Ieee.{Float, nan, inf, fin, up, down}
 use lib.Ieee.Bits.{is-true}
 use lib.Ieee.Fits.{down-pos, and-l, and-r, and-i}
 use lib.Ieee.Exact.{HasValue}
-use Rattle.figures.specs.declared.Units.{Units}
-use Rattle.figures.specs.declared.Units.the-variants.{Count, Refused}
-use Rattle.figures.specs.Figures.{unitsOf, pickUnits}
+use Rattle.figures.specs.Figures.{Answer, given, turned, unitsOf, pickUnits}
 
 -- the test of `unitsOf`, and the number that it tests
 abbrev test : ℕ → ℕ → ℕ → Bool
@@ -30,7 +29,7 @@ abbrev pub Is : ℕ → ℕ → ℕ → Float → ℕ → Type 0
 Is a c most x n = (1 ≤ n) × (n ≤ most) × HasValue x false (a * n) c
 
 pub reads : (a c most n : ℕ) (x : Float) → 0 < a → 1 ≤ n → n ≤ most → HasValue x false (a * n) c
-    → unitsOf a c most x ≡ Count n
+    → unitsOf a c most x ≡ given n
 unfolding unitsOf
 reads a c most n (fin true m e) A L U h = absurd (true≢false (h .0))
 reads a c most n (fin false m e) A L U h =
@@ -60,7 +59,7 @@ passed a c most m e t =
     turn q a d = omega arith
 
 pub refuses : (a c most : ℕ) (x : Float) → ((n : ℕ) → 1 ≤ n → n ≤ most → HasValue x false (a * n) c → ⊥)
-    → unitsOf a c most x ≡ Refused 21
+    → unitsOf a c most x ≡ turned 21
 unfolding unitsOf
 refuses a c most nan h = refl
 refuses a c most (inf s) h = refl
@@ -68,27 +67,26 @@ refuses a c most (fin true m e) h = refl
 refuses a c most (fin false m e) h = go (passes a c most m e) (passed a c most m e)
   where
     go : (b : Bool) → (T b → Is a c most (fin false m e) (tested a c m e))
-        → pickUnits b (tested a c m e) ≡ Refused 21
+        → pickUnits b (tested a c m e) ≡ turned 21
     go true k = absurd (h (tested a c m e) (k tt .0) (k tt .1) (k tt .2))
     go false k = refl
 
-abbrev countOf : Units → ℕ
-countOf (Count n) = n
-countOf (Refused k) = 0
+-- The value of an answer, and whether it has none.
+abbrev valueOf : Answer ℕ → ℕ
+valueOf r = getD (r .values) 0 0
 
-abbrev isCount : Units → Bool
-isCount (Count n) = true
-isCount (Refused k) = false
+abbrev isTurned : Answer ℕ → Bool
+isTurned r = eqb (length (r .values)) 0
 
-pub only : (a c most n : ℕ) (x : Float) → unitsOf a c most x ≡ Count n
+pub only : (a c most n : ℕ) (x : Float) → unitsOf a c most x ≡ given n
     → (1 ≤ n) × (n ≤ most) × HasValue x false (a * n) c
 unfolding unitsOf
-only a c most n nan h = absurd (false≢true (ap isCount h))
-only a c most n (inf s) h = absurd (false≢true (ap isCount h))
-only a c most n (fin true m e) h = absurd (false≢true (ap isCount h))
+only a c most n nan h = absurd (true≢false (ap isTurned h))
+only a c most n (inf s) h = absurd (true≢false (ap isTurned h))
+only a c most n (fin true m e) h = absurd (true≢false (ap isTurned h))
 only a c most n (fin false m e) h = go (passes a c most m e) (passed a c most m e) h
   where
     go : (b : Bool) → (T b → Is a c most (fin false m e) (tested a c m e))
-        → pickUnits b (tested a c m e) ≡ Count n → Is a c most (fin false m e) n
-    go true k p = subst (λ (z : ℕ). Is a c most (fin false m e) z) (ap countOf p) (k tt)
-    go false k p = absurd (false≢true (ap isCount p))
+        → pickUnits b (tested a c m e) ≡ given n → Is a c most (fin false m e) n
+    go true k p = subst (λ (z : ℕ). Is a c most (fin false m e) z) (ap valueOf p) (k tt)
+    go false k p = absurd (true≢false (ap isTurned p))

@@ -24,8 +24,7 @@ use lib.Ieee.Back.{round-whole, unsigned-back}
 use lib.Ieee.Order.{le-of-values}
 use lib.Ieee.Positive.{num, den, positive, own-value, positive-of-value, between, values-of-le}
 use lib.Ieee.Scale.{round-same}
-use Rattle.figures.specs.declared.Units.the-variants.{Count, Refused}
-use Rattle.figures.specs.Figures.{UnitIs, unitsOf}
+use Rattle.figures.specs.Figures.{UnitIs, given, turned, unitsOf}
 use Rattle.figures.proofs.Values.{div-of, eq-value, eq-same, units-are}
 use Rattle.figures.proofs.Read.{reads, refuses}
 
@@ -126,14 +125,14 @@ module _ (x u : Float) (most : ℕ) (M : most < 4294967296) (a : ℕ) (h : UnitI
   quotient k K v =
       subst (λ (y : Float). HasValue y false k 1) (sym (exact a k x u h v)) (whole-value k (lt-of-le-of-lt K M))
 
-  pub too-low : le one (div binary64 x u) ≡ false → unitsOf a 4 most x ≡ Refused 21
+  pub too-low : le one (div binary64 x u) ≡ false → unitsOf a 4 most x ≡ turned 21
   too-low e =
       refuses a 4 most x
       (λ k L U v. clash (le one (div binary64 x u)) e
       (le-of-values one (div binary64 x u) 1 1 k 1 (lit< tt) (lit< tt) one-is (quotient k U v)
       (subst (λ (z : ℕ). 1 ≤ z) (sym (mul-one k)) L)))
 
-  pub too-high : le (div binary64 x u) largest ≡ false → unitsOf a 4 most x ≡ Refused 21
+  pub too-high : le (div binary64 x u) largest ≡ false → unitsOf a 4 most x ≡ turned 21
   too-high e =
       refuses a 4 most x
       (λ k L U v. clash (le (div binary64 x u) largest) e
@@ -148,21 +147,21 @@ module _ (x u : Float) (most : ℕ) (M : most < 4294967296) (a : ℕ) (h : UnitI
     whole : (k : ℕ) → k ≤ most → HasValue x false (a * k) 4 → n ≡ k
     whole k K v = w ∙ ap (toUnsigned 64) (exact a k x u h v) ∙ whole-back k (lt-of-le-of-lt K M)
 
-    pub too-many : most < n → unitsOf a 4 most x ≡ Refused 21
+    pub too-many : most < n → unitsOf a 4 most x ≡ turned 21
     too-many l = refuses a 4 most x (λ k L U v. no k n most (whole k U v) U l)
       where
         no : (k n most : ℕ) → n ≡ k → k ≤ most → most < n → ⊥
         no k n most e a b = omega arith
 
     pub same : n < 4294967296 → 1 ≤ n → n ≤ most → eq (mul binary64 (ofInt binary64 (pos n)) u) x ≡ true
-        → unitsOf a 4 most x ≡ Count n
+        → unitsOf a 4 most x ≡ given n
     same N L U e =
         reads a 4 most n x (h .some) L U
         (eq-value (mul binary64 (ofInt binary64 (pos n)) u) x (a * n) 4 (mul-pos (h .some) L) (lit< tt)
         (units-are a n u N h .value) (subst T (sym e) tt))
 
     pub other : n < 4294967296 → eq (mul binary64 (ofInt binary64 (pos n)) u) x ≡ false
-        → unitsOf a 4 most x ≡ Refused 21
+        → unitsOf a 4 most x ≡ turned 21
     other N e =
         refuses a 4 most x
         (λ k L U v. true≢false

@@ -3,10 +3,12 @@
 -- `HasValue x false a c` says that x is a / c exactly.
 use Prim.Native.Nat.{ℕ, _*_, _/_, _%_, _≤_, _<_}
 use mathlib.Core.Bool.{Bool, true, false, _&&_}
+use mathlib.Core.List.{List, [], _∷_, map}
 use mathlib.Core.Path.{_≡_}
 use lib.Dec.{leb, eqb}
 use lib.Ieee.{Float, nan, inf, fin, binary64, up, down, round}
 use lib.Ieee.Exact.{HasValue}
+use Rattle.line.specs.declared.Command.{Command}
 use Rattle.line.specs.declared.Command.the-variants as Line
 use Rattle.figures.specs.declared.Units.{Units}
 use Rattle.figures.specs.declared.Units.the-variants.{Count, Refused}
@@ -28,34 +30,58 @@ speedHz n = round binary64 false n 4
 abbrev pub slopeHz : ℕ → Float
 slopeHz n = round binary64 false (5 * n) 4
 
+-- ---- the answers in the paper's terms
+
+-- A number, 0 or 21, and the value of a figure that is not turned away.
+pub record Answer (A : Type 0) : Type 0 where
+  pub number : ℕ
+  pub values : List A
+
+-- The value v, with the number 0.
+abbrev pub given : {A : Type 0} → A → Answer A
+given v = record { number = 0; values = v ∷ [] }
+
+-- Turned away by the number n.
+abbrev pub turned : {A : Type 0} → ℕ → Answer A
+turned n = record { number = n; values = [] }
+
+-- The paper's number and values for each case of a figure in units, and of a setting's command.
+abbrev pub countOf : Units → Answer ℕ
+countOf (Count n) = given n
+countOf (Refused k) = turned k
+
+abbrev pub askedOf : Asked → Answer Command
+askedOf (Ask.Command c) = given c
+askedOf (Ask.Refused k) = turned k
+
 -- ---- the reverse reading
 
--- n where the test holds, else refusal 21.
-abbrev pub pickUnits : Bool → ℕ → Units
-pickUnits true n = Count n
-pickUnits false n = Refused 21
+-- n where the test holds, else 21.
+abbrev pub pickUnits : Bool → ℕ → Answer ℕ
+pickUnits true n = given n
+pickUnits false n = turned 21
 
 -- "Only such values of n in range are read back": the n from 1 to most for which x is exactly a * n / c, else 21.
-unfoldable pub unitsOf : ℕ → ℕ → ℕ → Float → Units
-unitsOf a c most nan = Refused 21
-unitsOf a c most (inf s) = Refused 21
-unitsOf a c most (fin true m e) = Refused 21
+unfoldable pub unitsOf : ℕ → ℕ → ℕ → Float → Answer ℕ
+unitsOf a c most nan = turned 21
+unitsOf a c most (inf s) = turned 21
+unitsOf a c most (fin true m e) = turned 21
 unitsOf a c most (fin false m e) =
     let q = m * up e * c / (a * down e) in
     pickUnits (eqb (m * up e * c % (a * down e)) 0 && leb 1 q && leb q most) q
 
 -- P 8 takes 1 to 1,000,000 units of 1/4 Hz, P 9 takes 1 to 4,095 of 5/4 Hz per ms.
-abbrev pub speedUnits : Float → Units
+abbrev pub speedUnits : Float → Answer ℕ
 speedUnits x = unitsOf 1 4 1000000 x
 
-abbrev pub slopeUnits : Float → Units
+abbrev pub slopeUnits : Float → Answer ℕ
 slopeUnits x = unitsOf 5 4 4095 x
 
--- The same with no arithmetic: r counts n where x is the very f64 of an n in range, only there, and is 21 elsewhere.
-pub record ReadBack (figure : ℕ → Float) (most : ℕ) (x : Float) (r : Units) : Type 0 where
-  pub reads : (n : ℕ) → 1 ≤ n → n ≤ most → x ≡ figure n → r ≡ Count n
-  pub only : (n : ℕ) → r ≡ Count n → (1 ≤ n) × (n ≤ most) × (x ≡ figure n)
-  pub refuses : ((n : ℕ) → 1 ≤ n → n ≤ most → x ≡ figure n → ⊥) → r ≡ Refused 21
+-- The same with no arithmetic: r gives n where x is the very f64 of an n in range, only there, and is 21 elsewhere.
+pub record ReadBack (figure : ℕ → Float) (most : ℕ) (x : Float) (r : Answer ℕ) : Type 0 where
+  pub reads : (n : ℕ) → 1 ≤ n → n ≤ most → x ≡ figure n → r ≡ given n
+  pub only : (n : ℕ) → r ≡ given n → (1 ≤ n) × (n ≤ most) × (x ≡ figure n)
+  pub refuses : ((n : ℕ) → 1 ≤ n → n ≤ most → x ≡ figure n → ⊥) → r ≡ turned 21
 
 -- What the reader of both scales may be told of its unit: it is a / 4, for an a above 0 of 16 bits.
 pub record UnitIs (u : Float) (a : ℕ) : Type 0 where
@@ -65,19 +91,14 @@ pub record UnitIs (u : Float) (a : ℕ) : Type 0 where
 
 -- ---- a setting as its P command
 
--- P 8 with the units, P 9 with the units; a refusal goes on.
-abbrev pub asSpeed : Units → Asked
-asSpeed (Count n) = Ask.Command (Line.Speed n)
-asSpeed (Refused k) = Ask.Refused k
+-- The command that takes the units; a number goes on.
+abbrev pub asks : (ℕ → Command) → Answer ℕ → Answer Command
+asks command units = record { number = units .number; values = map command (units .values) }
 
-abbrev pub asSlope : Units → Asked
-asSlope (Count n) = Ask.Command (Line.Slope n)
-asSlope (Refused k) = Ask.Refused k
-
--- "A setting is a speed in hertz or a slope in hertz per ms": the matching P command, or 21.
-abbrev pub commandOf : Setting → Asked
-commandOf (Speed x) = asSpeed (speedUnits x)
-commandOf (Slope x) = asSlope (slopeUnits x)
+-- "A setting is a speed in hertz or a slope in hertz per ms": the matching P command, P 8 or P 9, or 21.
+abbrev pub commandOf : Setting → Answer Command
+commandOf (Speed x) = asks Line.Speed (speedUnits x)
+commandOf (Slope x) = asks Line.Slope (slopeUnits x)
 
 -- ---- the pair
 

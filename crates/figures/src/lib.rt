@@ -8,6 +8,8 @@ ghost use Rattle.controller.specs.Reach.{Reachable, Made};
 ghost use Rattle.figures.specs.Figures.{
   Exactly,
   UnitIs,
+  countOf,
+  askedOf,
   unitsOf,
   speedHz,
   slopeHz,
@@ -73,7 +75,7 @@ pub fn slope_hz_per_ms(n: u32) -> f64
 
 // The figure in units. The quotient, which may be rounded, only proposes a number; the last test decides.
 fn read_units(x: f64, unit: f64, most: u32) -> Units
-    ensures { λ r. ⌜ ((a : ℕ) → UnitIs unit a → r ≡ unitsOf a 4 most x) ⌝ }
+    ensures { λ r. ⌜ ((a : ℕ) → UnitIs unit a → countOf r ≡ unitsOf a 4 most x) ⌝ }
 {
     let y = x / unit;
     if y >= 1.0 && y <= LARGEST {
@@ -87,23 +89,23 @@ fn read_units(x: f64, unit: f64, most: u32) -> Units
 
 // A speed in hertz, read back.
 pub fn speed_units(x: f64) -> Units
-    ensures { λ r. ⌜ r ≡ speedUnits x ⌝ }
-    ensures { λ r. ⌜ ReadBack speedHz 1000000 x r ⌝ }
+    ensures { λ r. ⌜ countOf r ≡ speedUnits x ⌝ }
+    ensures { λ r. ⌜ ReadBack speedHz 1000000 x (countOf r) ⌝ }
 {
     read_units(x, SPEED_UNIT, SPEED_MOST)
 }
 
 // A slope in hertz per ms, read back.
 pub fn slope_units(x: f64) -> Units
-    ensures { λ r. ⌜ r ≡ slopeUnits x ⌝ }
-    ensures { λ r. ⌜ ReadBack slopeHz 4095 x r ⌝ }
+    ensures { λ r. ⌜ countOf r ≡ slopeUnits x ⌝ }
+    ensures { λ r. ⌜ ReadBack slopeHz 4095 x (countOf r) ⌝ }
 {
     read_units(x, SLOPE_UNIT, SLOPE_MOST)
 }
 
 // The P command that makes the setting.
 pub fn command_of(s: Setting) -> Asked
-    ensures { λ r. ⌜ r ≡ commandOf s ⌝ }
+    ensures { λ r. ⌜ askedOf r ≡ commandOf s ⌝ }
 {
     match s {
         Setting::Speed(x) => match speed_units(x) {
