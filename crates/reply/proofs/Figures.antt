@@ -1,10 +1,10 @@
--- Laws of the figures in a reply: an axis that is not there, the five digits of a held position, its bias, and its bits
--- as an i64. Assumes nothing.
-use Prim.Native.Nat.{ℕ, suc, _+_, _-_, _%_, _≤_, _<_}
+-- Laws of the figures in a reply: an axis that is not there, the five digits of a held position, its bias, and the bits
+-- of what is left without it. Assumes nothing.
+use Prim.Native.Nat.{ℕ, zero, suc, _+_, _-_, _%_, _≤_, _<_}
 use mathlib.Core.List.{List}
 use mathlib.Core.Path.{_≡_, sym, ap, subst, _∙_}
 use native.Mathlib.Omega.{arith}
-use lib.IntN.{ℤ, pos, negsuc, _+ℤ_, _-ℤ_}
+use lib.IntN.{ℤ, pos, negsuc, natAbs, _+ℤ_, _-ℤ_}
 use lib.ListN.{length, getD, List·getD-eq-default}
 use mir.Syntax.{w64}
 use mir.Val.{SFits, toZ, ofZ}
@@ -29,22 +29,24 @@ bias-held n =
     by-lt (λ (z : ℤ). bias z ≡ n) n 524288 (negsuc (524288 - suc n)) (pos (n - 524288))
     (λ h. omega arith) (λ h. omega arith)
 
--- ---- the position that 32 bits hold, as an i64
+-- ---- a u32 less a small number, as an i64
 
 module _ (n : ℕ) (h : n < 4294967296) where
   wide : SFits w64 (pos n)
   wide = record { sfits = omega (arith, h) }
 
-  read : toZ w64 n -ℤ pos 524288 ≡ pos n +ℤ negsuc 524287
-  read = ap (λ (z : ℤ). z -ℤ pos 524288) (toZ-ofZ w64 (pos n) wide)
+  less : (z : ℤ) → natAbs z < 4294967296 → SFits w64 (pos n -ℤ z)
+  less (pos zero) k = record { sfits = omega (arith, h) }
+  less (pos (suc b)) k =
+      by-lt (SFits w64) n (suc b) (negsuc (suc b - suc n)) (pos (n - suc b))
+      (λ q. record { sfits = omega (arith, k) }) (λ q. record { sfits = omega (arith, h) })
+  less (negsuc b) k = record { sfits = omega (arith, h, k) }
 
-  fits : SFits w64 (pos n +ℤ negsuc 524287)
-  fits =
-      by-lt (SFits w64) n 524288 (negsuc (524288 - suc n)) (pos (n - 524288))
-      (λ k. record { sfits = omega arith }) (λ k. record { sfits = omega (arith, h) })
+  read : (z : ℤ) → toZ w64 n -ℤ z ≡ pos n -ℤ z
+  read z = ap (λ (x : ℤ). x -ℤ z) (toZ-ofZ w64 (pos n) wide)
 
-  pub read-fits : SFits w64 (toZ w64 n -ℤ pos 524288)
-  read-fits = subst (SFits w64) (sym read) fits
+  pub less-fits : (z : ℤ) → natAbs z < 4294967296 → SFits w64 (toZ w64 n -ℤ z)
+  less-fits z k = subst (SFits w64) (sym (read z)) (less z k)
 
-  pub read-is : toZ w64 (ofZ w64 (toZ w64 n -ℤ pos 524288)) ≡ pos n +ℤ negsuc 524287
-  read-is = ap (λ (z : ℤ). toZ w64 (ofZ w64 z)) read ∙ toZ-ofZ w64 (pos n +ℤ negsuc 524287) fits
+  pub less-is : (z : ℤ) → natAbs z < 4294967296 → toZ w64 (ofZ w64 (toZ w64 n -ℤ z)) ≡ pos n -ℤ z
+  less-is z k = ap (λ (x : ℤ). toZ w64 (ofZ w64 x)) (read z) ∙ toZ-ofZ w64 (pos n -ℤ z) (less z k)
