@@ -26,18 +26,18 @@ use Rattle.line.specs.Line.{
   judgeForm,
   judgeOf,
 }
-use Rattle.line.specs.Verdict.{Order, Verdict, verdictOf, firstOf, lineNumber, lineOrder, lineVerdict}
+use Rattle.line.specs.Verdict.{Asked, Verdict, verdictOf, firstOf, lineNumber, lineAsked, lineVerdict}
 
 -- The checks as one number, whatever each says.
 abbrev number : Bool → Bool → Bool → Bool → Bool → Bool → Bool → ℕ
 number a b c d e f g = cond a 4 (cond b 5 (cond c 6 (cond d 7 (cond e 8 (cond f 9 (cond g 10 0))))))
 
-checks : (a b c d e f g : Bool) (o : Order)
+checks : (a b c d e f g : Bool) (o : Asked)
     → verdictOf (turnedAway 4 a (turnedAway 5 b (turnedAway 6 c (turnedAway 7 d
     (turnedAway 8 e (turnedAway 9 f (turnedAway 10 g (Accepted (o .command) (o .digits)))))))))
     ≡ record {
       number = number a b c d e f g;
-      orders = cond (eqb (number a b c d e f g) 0) (o ∷ []) [];
+      asked = cond (eqb (number a b c d e f g) 0) (o ∷ []) [];
     }
 checks true b c d e f g o = refl
 checks false true c d e f g o = refl
@@ -49,14 +49,14 @@ checks false false false false false false true o = refl
 checks false false false false false false false o = refl
 
 verdict : (cs : List ℕ) → verdictOf (judgeOf cs) ≡ lineVerdict cs
-unfolding judgeOf judgeForm lineNumber lineOrder
+unfolding judgeOf judgeForm lineNumber lineAsked
 verdict cs =
     let digits = numberOf (digitChars cs) in
     let n = valueOf digits in
     let form = formOf (charAt cs 0) (digitCount cs) (code n) in
     checks (ltb (length cs) 2 || ltb 9 (length cs)) (not (isLetter (charAt cs 0))) (not (isSwitch (charAt cs 1)))
     (not (isIdent (digitOf (charAt cs 8))) || not (isNumber digits)) (not (isListed form))
-    (not (hasCount form (digitCount cs))) (not (inRange form n)) (lineOrder cs)
+    (not (hasCount form (digitCount cs))) (not (inRange form n)) (lineAsked cs)
 
 -- Both promises of `judge`, from the first.
 pub judged : {r : Judged} (cs : List ℕ) → r ≡ judgeOf cs → (r ≡ judgeOf cs) × (verdictOf r ≡ lineVerdict cs)

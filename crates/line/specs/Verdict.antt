@@ -27,22 +27,22 @@ use Rattle.line.specs.Line.{
 }
 
 -- What an accepted line asks for: its command and its six digits, absent ones 0.
-pub record Order : Type 0 where
+pub record Asked : Type 0 where
   pub command : Command
   pub digits : ℕ
 
--- A number, 0 where no rule turns the line away, and the order of a line that is accepted.
+-- A number, 0 where no rule turns the line away, and what a line that is accepted asks for.
 pub record Verdict : Type 0 where
   pub number : ℕ
-  pub orders : List Order
+  pub asked : List Asked
 
 -- The paper's number and values for each case of a judgement: 0 with the command and its digits, or the number alone.
 abbrev pub verdictOf : Judged → Verdict
 verdictOf (Accepted command digits) = record {
   number = 0;
-  orders = record { command = command; digits = digits } ∷ [];
+  asked = record { command = command; digits = digits } ∷ [];
 }
-verdictOf (Refused number) = record { number = number; orders = [] }
+verdictOf (Refused number) = record { number = number; asked = [] }
 
 -- A rule: its number, and whether it applies.
 pub record Rule : Type 0 where
@@ -75,16 +75,16 @@ rules cs =
 unfoldable pub lineNumber : List ℕ → ℕ
 lineNumber cs = firstOf (rules cs)
 
--- The line's order, from its row of the table and its digits.
-unfoldable pub lineOrder : List ℕ → Order
-lineOrder cs =
+-- What the line asks for, from its row of the table and its digits.
+unfoldable pub lineAsked : List ℕ → Asked
+lineAsked cs =
     let n = valueOf (numberOf (digitChars cs)) in
     let form = formOf (charAt cs 0) (digitCount cs) (code n) in
     record { command = commandOf form (digitCount cs) n; digits = n }
 
--- Every line: its number, and its order where that is 0.
+-- Every line: its number, and what it asks for where that is 0.
 abbrev pub lineVerdict : List ℕ → Verdict
 lineVerdict cs = record {
   number = lineNumber cs;
-  orders = cond (eqb (lineNumber cs) 0) (lineOrder cs ∷ []) [];
+  asked = cond (eqb (lineNumber cs) 0) (lineAsked cs ∷ []) [];
 }
