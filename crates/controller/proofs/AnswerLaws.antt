@@ -14,12 +14,25 @@ use Rattle.machine.specs.State.{Machine}
 use Rattle.machine.specs.Replies as replies
 use Rattle.machine.specs.Steps.{tickStep}
 use Rattle.machine.specs.Calls.{Call, state}
-use Rattle.machine.specs.List.{effect, begins, isPulse, lineOf, resetBy, sent, counted, signed}
+use Rattle.machine.specs.List.{effect, begins, isPulse, lineOf, resetBy, sent, counted, signed, latest}
 use Rattle.machine.proofs.DemandLaws.{demand-3, counts-hold}
 use Rattle.controller.specs.declared.PowerOn.{PowerOn}
 use Rattle.controller.specs.declared.TickAnswer.{TickAnswer}
 use Rattle.controller.specs.Held.{held, heldPosition}
-use Rattle.controller.specs.Answers.{Answered, byte, tick, last, Follows, callOf, callsOf, pulseIn, countIn, sumIn, Demand3Answers}
+use Rattle.controller.specs.Answers.{
+  Answered,
+  byte,
+  tick,
+  last,
+  Follows,
+  callOf,
+  callsOf,
+  pulseIn,
+  latestIn,
+  countIn,
+  sumIn,
+  Demand3Answers,
+}
 use Rattle.controller.proofs.TickLaws.{each-at}
 use Rattle.controller.proofs.ByteLaws.{unbiased}
 use Rattle.controller.proofs.ReachLaws.{after-power, after-byte, after-tick}
@@ -54,6 +67,12 @@ sum-held s p (x ∷ l) f k h =
     λ i. cond (resetBy (lineOf (state s (callsOf l)) (callOf x))) (pos 0)
     (sum-held s p l (f .0) k h i +ℤ pulse-held s p x l f k h i)
 
+latest-held : (s : ℕ) (p : PowerOn) (l : List Answered) → Follows s p l → (k : ℕ) → k < 5
+    → latestIn l k ≡ latest s (callsOf l) k
+unfolding latest
+latest-held s p [] f k h = refl
+latest-held s p (x ∷ l) f k h = pulse-held s p x l f k h
+
 each-same : {A : Type 0} (f g : ℕ → A) → ((k : ℕ) → k < 5 → f k ≡ g k) → each f ≡ each g
 each-same f g p =
     λ i. p 0 (omega arith) i ∷ p 1 (omega arith) i ∷ p 2 (omega arith) i ∷ p 3 (omega arith) i ∷ p 4 (omega arith) i
@@ -67,8 +86,11 @@ positions-signed s h =
 
 pub demand-3-answers : Demand3Answers
 demand-3-answers s p l f = record {
-  goesOn = record { switch = s; history = callsOf l; made = e };
+  reached = record { switch = s; history = callsOf l; made = e };
   holds = λ k h. demand-3 s (callsOf l) k h;
+  figures = λ ts q. ap (map (λ (t : Travel). t .0)) (q s (callsOf l) e);
+  places = λ ps q. ap (map positionOf) (q s (callsOf l) e) ∙ positions-signed s (callsOf l);
+  answers = each-same (latestIn l) (latest s (callsOf l)) (latest-held s p l f);
   travels = λ ts q. ap (map (λ (t : Travel). t .0)) (q s (callsOf l) e)
       ∙ each-same (replies.travelOf m) (countIn s l)
       (λ k h. counts-hold s (callsOf l) k h ∙ sym (count-held s p l f k h));

@@ -26,7 +26,25 @@ use Rattle.receiver.specs.declared.Heard.{Heard}
 use Rattle.receiver.specs.declared.Heard.the-variants.{Character, Line}
 use Rattle.receiver.specs.Receiver.{Receipt, receive, heldTaken}
 use Rattle.machine.specs.State.{Machine}
-use Rattle.machine.specs.Steps.{Outcome, untaken, refused, accepted, decided, outcomeOf, answered, heardBy, byteStep, bufferAfter, powerOn, tickStep, refusedTick, ticked, tries, looks, failure}
+use Rattle.machine.specs.Steps.{
+  Outcome,
+  untaken,
+  refused,
+  accepted,
+  decided,
+  outcomeOf,
+  answered,
+  heardBy,
+  byteStep,
+  bufferAfter,
+  powerOn,
+  tickStep,
+  refusedTick,
+  ticked,
+  tries,
+  looks,
+  failure,
+}
 use Rattle.machine.specs.Steps as steps
 use Rattle.machine.specs.Stops.{takes, stops}
 use Rattle.machine.specs.Ramp.{runs}

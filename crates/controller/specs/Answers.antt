@@ -15,7 +15,7 @@ use Rattle.machine.specs.State.{Machine}
 use Rattle.machine.specs.Steps.{byteStep, tickStep, bufferAfter}
 use Rattle.machine.specs.Calls as calls
 use Rattle.machine.specs.Calls.{Call, state}
-use Rattle.machine.specs.List.{effect, begins, isPulse, lineOf, resetBy}
+use Rattle.machine.specs.List.{effect, begins, isPulse, lineOf, resetBy, travel, position, latest}
 use Rattle.machine.specs.Demand.{Holds}
 use Rattle.controller.specs.declared.Controller.{Controller}
 use Rattle.controller.specs.declared.PowerOn.{PowerOn}
@@ -26,7 +26,7 @@ use Rattle.controller.specs.Reach.{Reachable, Made}
 
 -- ---- The reply of one call
 
--- The part of a buffer is the reply of whatever byte left the buffer so and answered the length n.
+-- The part is the reply of any byte that left the buffer so and answered the length n.
 abbrev pub ReplyIn : List ℕ → ℕ → List ℕ → Type 0
 ReplyIn buffer n part =
     (m : Machine) (b : ℕ) (entry : List ℕ) → buffer ≡ bufferAfter (byteStep m b entry) entry
@@ -40,16 +40,16 @@ pub data Answered : Type 0 where
   tick : ℕ → TickAnswer → Answered
 
 -- The controller that a call left.
-abbrev pub left : Answered → Controller
-left (byte b entry exit r) = r .controller
-left (tick w r) = r .controller
+abbrev pub leftBy : Answered → Controller
+leftBy (byte b entry exit r) = r .controller
+leftBy (tick w r) = r .controller
 
 -- The controller after a list of calls: the first call gets what power-on gave.
 abbrev pub last : PowerOn → List Answered → Controller
 last p [] = p .controller
-last p (x ∷ l) = left x
+last p (x ∷ l) = leftBy x
 
--- What the contracts of `byte` and `tick` promise of a call on the controller c.
+-- The contracts of `byte` and `tick`: what they promise of a call on the controller c.
 abbrev pub Promised : Controller → Answered → Type 0
 Promised c (byte b entry exit r) =
     Made c (λ m. r ≡ heldByte (byteStep m b entry))
@@ -77,6 +77,11 @@ abbrev pub pulseIn : Answered → ℕ → ℤ
 pulseIn (byte b entry exit r) k = pos 0
 pulseIn (tick w r) k = getD (r .pulses) k (pos 0)
 
+-- What the latest call answered for axis k.
+abbrev pub latestIn : List Answered → ℕ → ℤ
+latestIn [] k = pos 0
+latestIn (x ∷ l) k = pulseIn x k
+
 -- The answered pulses of all ticks since the latest move's start took effect, for a stored start that very tick
 -- included.
 unfoldable pub countIn : ℕ → List Answered → ℕ → ℕ
@@ -91,7 +96,7 @@ sumIn s (x ∷ l) k =
 
 -- ---- The claim
 
--- What `travels` and `positions` promise of the controller c.
+-- The contracts of `travels` and `positions`: what they promise of the controller c.
 abbrev pub TravelsOf : Controller → List Travel → Type 0
 TravelsOf c ts = Made c (λ m. ts ≡ each (heldTravel m))
 
@@ -100,9 +105,15 @@ PositionsOf c ps = Made c (λ m. ps ≡ each (heldPosition m))
 
 pub record HoldsOf (s : ℕ) (p : PowerOn) (l : List Answered) : Type 0 where
   -- the last controller is one that an entry takes, so that the list can go on
-  pub goesOn : Reachable (last p l)
+  pub reached : Reachable (last p l)
   -- demand 3 is true of the list
   pub holds : (k : ℕ) → k < 5 → Holds s (callsOf l) k
+  -- its travels and positions are what `travels` and `positions` answer of the last controller, its latest answer the
+  -- `pulses` of the latest call
+  pub figures : (ts : List Travel) → TravelsOf (last p l) ts
+      → map (λ (t : Travel). t .0) ts ≡ each (travel s (callsOf l))
+  pub places : (ps : List Position) → PositionsOf (last p l) ps → map positionOf ps ≡ each (position s (callsOf l))
+  pub answers : each (latestIn l) ≡ each (latest s (callsOf l))
   -- what `travels` answers of the last controller: the pulses that the ticks answered in the latest move
   pub travels : (ts : List Travel) → TravelsOf (last p l) ts
       → map (λ (t : Travel). t .0) ts ≡ each (countIn s l)

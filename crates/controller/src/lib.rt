@@ -10,11 +10,11 @@ ghost use Rattle.reply.specs.Reply.{positionOf};
 ghost use Rattle.machine.specs.Demand.{Demand3};
 ghost use Rattle.machine.specs.Marked.{Marked};
 ghost use Rattle.machine.specs.Witness.{Witness};
-ghost use Rattle.machine.specs.Steps.{byteStep, tickStep, bufferAfter};
 ghost use Rattle.machine.specs.Stops.{status};
-ghost use Rattle.controller.specs.Held.{heldPower, heldTravel, heldPosition, heldByte, heldTick};
+ghost use Rattle.controller.specs.Held.{heldPower};
 ghost use Rattle.controller.specs.Reach.{Reachable, Made};
-ghost use Rattle.controller.specs.Answers.{Demand3Answers, ReplyIn};
+ghost use Rattle.controller.specs.Answers as answered;
+ghost use Rattle.controller.specs.Answers.{ReplyIn, Promised, TravelsOf, PositionsOf, Demand3Answers};
 ghost use Rattle.controller.specs.Power.{badOf, freshOf, lineWith};
 use crate::hot::Counters;
 use crate::hot::Flags;
@@ -193,12 +193,10 @@ fn with_line(c: Controller, line: Receiver) -> Controller
 }
 
 impl Controller {
-    // A received byte, with the buffer lent for a reply.
+    // A received byte, with the buffer lent for a reply: the answer and the whole buffer are the machine's.
     pub fn byte(self, buf: &mut [u8], b: u8) -> ByteAnswer
         requires { ⌜ Reachable self ⌝ }
-        ensures { λ r. ⌜ Made self (λ m. r ≡ heldByte (byteStep m b (now (buf .entry)))) ⌝ }
-        ensures { λ r. ⌜ Made self (λ m. now (buf .exit) ≡ bufferAfter (byteStep m b (now (buf .entry))) (now (buf .entry))) ⌝ }
-        ensures { λ r. ⌜ Reachable (r .controller) ⌝ }
+        ensures { λ r. ⌜ Promised self (answered.byte b (now (buf .entry)) (now (buf .exit)) r) ⌝ }
     {
         if buf.len() < 120 {
             return ByteAnswer {
@@ -227,11 +225,10 @@ impl Controller {
         }
     }
 
-    // A tick, with its input word.
+    // A tick, with its input word: the answer is the machine's.
     pub fn tick(self, word: u32) -> TickAnswer
         requires { ⌜ Reachable self ⌝ }
-        ensures { λ r. ⌜ Made self (λ m. r ≡ heldTick (tickStep m word)) ⌝ }
-        ensures { λ r. ⌜ Reachable (r .controller) ⌝ }
+        ensures { λ r. ⌜ Promised self (answered.tick word r) ⌝ }
     {
         if 16777215 < word {
             return TickAnswer {
@@ -268,7 +265,7 @@ impl Controller {
     // The pulses that each axis has sent in the latest move.
     pub fn travels(self) -> [Travel; 5]
         requires { ⌜ Reachable self ⌝ }
-        ensures { λ r. ⌜ Made self (λ m. r ≡ each (heldTravel m)) ⌝ }
+        ensures { λ r. ⌜ TravelsOf self r ⌝ }
     {
         let hot = self.hot;
         let counters = hot.counters;
@@ -279,7 +276,7 @@ impl Controller {
     // The signed pulses of each axis since power-on or the last position reset.
     pub fn positions(self) -> [Position; 5]
         requires { ⌜ Reachable self ⌝ }
-        ensures { λ r. ⌜ Made self (λ m. r ≡ each (heldPosition m)) ⌝ }
+        ensures { λ r. ⌜ PositionsOf self r ⌝ }
         ensures { λ r. ⌜ Made self (λ m. map positionOf r ≡ each (m .position)) ⌝ }
     {
         let hot = self.hot;

@@ -19,15 +19,73 @@ use Rattle.line.specs.declared.Judged.the-variants.{Accepted, Refused}
 use Rattle.receiver.specs.declared.Heard.{Heard}
 use Rattle.receiver.specs.declared.Heard.the-variants.{Character, Line}
 use Rattle.receiver.specs.Receiver.{receive}
-use Rattle.machine.specs.State.{Plan, Move, Machine, Waiting, none, start, withMove, withNext, withPosition, withWatch, withFlags}
+use Rattle.machine.specs.State.{
+  Plan,
+  Move,
+  Machine,
+  Waiting,
+  none,
+  start,
+  withMove,
+  withNext,
+  withPosition,
+  withWatch,
+  withFlags,
+}
 use Rattle.machine.specs.Shares.{whole}
 use Rattle.machine.specs.Ramp.{runs}
 use Rattle.machine.specs.Stops.{takes, cause, limitOrWatch, stops, stopping, marks, sensorActive, blocked}
 use Rattle.machine.specs.Starts.{startNumber, newMove, begun, notes, outside, final}
 use Rattle.machine.specs.Commands.{number, does, stores, setAxis, drops, keepsStart}
-use Rattle.machine.specs.Steps.{Outcome, refused, decided, outcomeOf, outcome, answered, heardBy, Tried, untried, failed, began, tryStart, tryWaiting, tries, waits, looks, ticked, refusedTick, failure, tooLarge}
+use Rattle.machine.specs.Steps.{
+  Outcome,
+  refused,
+  decided,
+  outcomeOf,
+  outcome,
+  answered,
+  heardBy,
+  Tried,
+  untried,
+  failed,
+  began,
+  tryStart,
+  tryWaiting,
+  tries,
+  runsOut,
+  waits,
+  looks,
+  ticked,
+  refusedTick,
+  failure,
+  tooLarge,
+}
 use Rattle.machine.specs.Calls.{Call, byte, tick, after}
-use Rattle.machine.specs.List.{Role, other, distanceLine, startLine, stopOrder, resetOrder, roleOf, roleBy, lineOf, startBy, takesEffect, stopBy, stopsIn, resetBy, distanceBy, minusBy, sent, isTick, begins, atStart, isPulse}
+use Rattle.machine.specs.List.{
+  Role,
+  other,
+  distanceLine,
+  dwellLine,
+  startLine,
+  stopOrder,
+  resetOrder,
+  roleOf,
+  roleBy,
+  lineOf,
+  startBy,
+  named,
+  takesEffect,
+  stopBy,
+  stopsIn,
+  resetBy,
+  distanceBy,
+  minusBy,
+  sent,
+  isTick,
+  begins,
+  atStart,
+  isPulse,
+}
 use Rattle.machine.proofs.BitLaws.{status-moving}
 use Rattle.machine.proofs.ShareLaws.{share-none}
 use Rattle.machine.proofs.RunLaws.{Good, Whole, Runs, runs-is, true-false, no-pulse}
@@ -158,20 +216,26 @@ called-start m k w a r e f n v p = record {
   ending = λ q h j l. true-false false q refl;
 }
 
--- A start that is stored alters nothing that the list speaks of.
-called-stored : (m a : Machine) (k : ℕ) (w : Bool) → Good (m .move) → Same m a
-    → Called m (startLine k w) untried false false (λ j. pos 0) a
-called-stored m a k w g s =
+-- Lines that are no distance line and no reset, as a start that is stored or a dwell line, alter neither plan nor
+-- positions.
+record Quiet (L : Role) : Type 0 where
+  distance : (k n : ℕ) → n ≡ distanceBy L k n
+  minus : (k : ℕ) (b : Bool) → b ≡ minusBy L k b
+  reset : false ≡ resetBy L
+
+called-quiet : (m a : Machine) (L : Role) → Quiet L → Good (m .move) → Same m a
+    → Called m L untried false false (λ j. pos 0) a
+called-quiet m a L q g s =
     let c = called-same m a false g s in
     record {
       good = c .good;
-      nextDistance = c .nextDistance;
-      nextMinus = c .nextMinus;
+      nextDistance = λ k. c .nextDistance k ∙ q .distance k (m .next .distance k);
+      nextMinus = λ k. c .nextMinus k ∙ q .minus k (m .next .minus k);
       distance = c .distance;
       minus = c .minus;
       master = c .master;
       count = c .count;
-      sum = c .sum;
+      sum = λ k. c .sum k ∙ ap (λ (b : Bool). cond b (pos 0) (m .position k +ℤ pos 0)) (q .reset);
       single = c .single;
       sign = c .sign;
       positive = c .positive;
@@ -273,12 +337,14 @@ at-rest false e = e
 
 -- An accepted line.
 called-accepted : (m : Machine) (b : ℕ) (c : Command) → Good (m .move) → number m c ≡ 0
-    → Called m (roleOf c) (startBy m (roleOf c)) (stopBy m (roleOf c)) false (λ k. pos 0)
+    → Called m (roleOf c) (startBy (m .pause) (roleOf c)) (stopBy m (roleOf c)) false (λ k. pos 0)
     (withWatch (does (heardBy m b) c) 0)
 called-accepted m b (C.Distance j s d) g e = called-distance m _ j d s g refl refl refl
 called-accepted m b (C.Speed v) g e = called-same m _ false g (record { next = refl; move = refl; position = refl })
 called-accepted m b (C.Slope v) g e = called-same m _ false g (record { next = refl; move = refl; position = refl })
-called-accepted m b (C.Dwell v) g e = called-same m _ false g (record { next = refl; move = refl; position = refl })
+called-accepted m b (C.Dwell v) g e =
+    called-quiet m _ (dwellLine v) (record { distance = λ j n. refl; minus = λ j b. refl; reset = refl }) g
+    (record { next = refl; move = refl; position = refl })
 called-accepted m b (C.Watch v) g e = called-same m _ false g (record { next = refl; move = refl; position = refl })
 called-accepted m b (C.Polarity v) g e = called-same m _ false g (record { next = refl; move = refl; position = refl })
 called-accepted m b (C.Travel k) g e = called-same m _ false g (record { next = refl; move = refl; position = refl })
@@ -292,7 +358,10 @@ called-accepted m b (C.Start k w) g e = when (stores m w) refl
         → Called m (startLine k w) (cond t untried (began k)) false false (λ j. pos 0)
         (withWatch (cond t (keepsStart (heardBy m b) k)
         (begun (heardBy m b) k)) 0)
-    when true f = called-stored m _ k w g (record { next = refl; move = refl; position = refl })
+    when true f =
+        called-quiet m _ (startLine k w)
+        (record { distance = λ j n. refl; minus = λ j b. refl; reset = refl }) g
+        (record { next = refl; move = refl; position = refl })
     when false f =
         called-start m k w _
         (ready m k (subst (λ (t : Bool). cond t 0 (startNumber m k) ≡ 0) f (p11 .1)))
@@ -320,7 +389,7 @@ called-accepted m b (C.Outputs v) g e = called-same m _ false g (record { next =
 -- A byte whose outcome is o.
 abbrev pub Byte : Machine → ℕ → Outcome → Type 0
 Byte m b o =
-    Called m (roleBy o) (startBy m (roleBy o)) (stopBy m (roleBy o)) false (λ k. pos 0) (answered m b o .machine)
+    Called m (roleBy o) (startBy (m .pause) (roleBy o)) (stopBy m (roleBy o)) false (λ k. pos 0) (answered m b o .machine)
 
 called-refused : (m : Machine) (b n : ℕ) (silent : Bool) (ident : Ident) → Good (m .move) → Byte m b
     (refused n silent ident)
@@ -359,12 +428,18 @@ record Looked (m : Machine) (S : Tried) (l : Machine) : Type 0 where
   move : l .move ≡ atStart S (λ j. newMove (m .next) j) (m .move)
   positive : begins S ≡ true → 0 < whole (l .move)
 
-looked-start : (m t : Machine) (k : ℕ) → Good (m .move) → Same m t → Looked m (tryStart t k) (waits t (tryStart t k))
+-- What takes effect of a stored start w that came to S.
+abbrev effective : Tried → Waiting → Tried
+effective S w = cond (eqb (failure S) 0) (named w) untried
+
+looked-start : (m t : Machine) (k : ℕ) → Good (m .move) → Same m t
+    → Looked m (effective (tryStart t k) (start k)) (waits t (tryStart t k))
 looked-start m t k g s =
     when (eqb (startNumber t k) 0) refl
   where
     when : (b : Bool) → eqb (startNumber t k) 0 ≡ b
-        → Looked m (cond b (began k) (failed (startNumber t k))) (waits t (cond b (began k) (failed (startNumber t k))))
+        → Looked m (effective (cond b (began k) (failed (startNumber t k))) (start k))
+        (waits t (cond b (began k) (failed (startNumber t k))))
     when true e =
         let r = ready t k (eqb-true (startNumber t k) 0 e) in
         record {
@@ -374,16 +449,18 @@ looked-start m t k g s =
           move = ap (λ (p : Plan). newMove p k) (s .next);
           positive = λ q. r .positive;
         }
-    when false e = record {
-      good = subst Good (sym (s .move)) g;
-      next = s .next;
-      position = s .position;
-      move = s .move;
-      positive = λ q. true-false false q refl;
-    }
+    when false e =
+        subst (λ (b : Bool). Looked m (cond b (began k) untried) (waits t (failed (startNumber t k)))) (sym e)
+        (record {
+          good = subst Good (sym (s .move)) g;
+          next = s .next;
+          position = s .position;
+          move = s .move;
+          positive = λ q. true-false false q refl;
+        })
 
 looked-waiting : (m t : Machine) (w : Waiting) → Good (m .move) → Same m t
-    → Looked m (tryWaiting t w) (waits t (tryWaiting t w))
+    → Looked m (effective (tryWaiting t w) w) (waits t (tryWaiting t w))
 looked-waiting m t none g s = record {
   good = subst Good (sym (s .move)) g;
   next = s .next;
@@ -393,11 +470,17 @@ looked-waiting m t none g s = record {
 }
 looked-waiting m t (start k) g s = looked-start m t k g s
 
-looked : (m t : Machine) → Good (m .move) → Same m t → Looked m (tries t) (waits t (tries t))
-looked m t g s =
-    by-bool (λ (S : Tried). Looked m S (waits t S)) (eqb (t .pause .left) 1) _ _
-    (λ e. looked-waiting m t (t .pause .waiting) g s)
-    (λ e. looked-waiting m t none g s)
+looked : (m t : Machine) → Good (m .move) → Same m t
+    → Looked m (cond (eqb (failure (tries t)) 0) (cond (runsOut t) (named (t .pause .waiting)) untried) untried)
+    (waits t (tries t))
+looked m t g s = when (runsOut t)
+  where
+    when : (r : Bool)
+        → Looked m (cond (eqb (failure (cond r (tryWaiting t (t .pause .waiting)) untried)) 0)
+        (cond r (named (t .pause .waiting)) untried) untried)
+        (waits t (cond r (tryWaiting t (t .pause .waiting)) untried))
+    when true = looked-waiting m t (t .pause .waiting) g s
+    when false = looked-waiting m t none g s
 
 -- A stop, begun or not.
 record Stopped (l : Machine) (P : Bool) (s : Machine) : Type 0 where
@@ -524,24 +607,30 @@ called-run m l s a S P z lk st rn = record {
     neither p q = ap (λ (b : Bool). b || m .move .moving) p ∙ q
 
 pub called-tick : (m : Machine) (w : ℕ) → Good (m .move)
-    → Called m other (takesEffect m (m .pause .waiting) (tick w)) (stopsIn m (tick w)) true (sent m (tick w)) (after m (tick w))
+    → Called m other (takesEffect m (m .pause) (tick w)) (stopsIn m (tick w)) true (sent m (tick w)) (after m (tick w))
 called-tick m w g = when (tooLarge w)
   where
-    goes : Called m other (tries (takes m w)) (cause (looks m w)) true (runs (stops (looks m w)) .pulse)
-        (runs (stops (looks m w)) .machine)
+    S : Tried
+    S = cond (runsOut (takes m w)) (named (m .pause .waiting)) untried
+
+    goes : Called m other (cond (eqb (failure (tries (takes m w))) 0) S untried) (cause (looks m w)) true
+        (runs (stops (looks m w)) .pulse) (runs (stops (looks m w)) .machine)
     goes =
         let lk = looked m (takes m w) g (record { next = refl; move = refl; position = refl }) in
         let st = stopped-is (looks m w) (lk .good) in
-        called-run m (looks m w) (stops (looks m w)) _ (tries (takes m w)) (cause (looks m w)) _ lk st
+        called-run m (looks m w) (stops (looks m w)) _ _ (cause (looks m w)) _ lk st
         (runs-is (stops (looks m w)) (st .good))
 
-    when : (t : Bool) → Called m other (cond t untried (tries (takes m w))) (cond t false (cause (looks m w))) true
+    when : (t : Bool)
+        → Called m other
+        (cond (eqb (cond t (refusedTick m) (ticked (runs (stops (looks m w))) (failure (tries (takes m w)))) .number) 0)
+        S untried) (cond t false (cause (looks m w))) true
         (λ k. cond t (refusedTick m) (ticked (runs (stops (looks m w))) (failure (tries (takes m w)))) .pulse k)
         (cond t (refusedTick m) (ticked (runs (stops (looks m w))) (failure (tries (takes m w)))) .machine)
     when true = called-same m m true g (record { next = refl; move = refl; position = refl })
     when false = goes
 
 pub called : (m : Machine) (x : Call) → Good (m .move)
-    → Called m (lineOf m x) (takesEffect m (m .pause .waiting) x) (stopsIn m x) (isTick x) (sent m x) (after m x)
+    → Called m (lineOf m x) (takesEffect m (m .pause) x) (stopsIn m x) (isTick x) (sent m x) (after m x)
 called m (byte b buffer) g = called-byte m b buffer g
 called m (tick w) g = called-tick m w g

@@ -6,24 +6,59 @@ use mathlib.Core.Path.{_≡_, refl, sym, ap, subst, _∙_}
 use native.Mathlib.Omega.{arith}
 use borrow.Author.Tests.{not-true}
 use lib.IntN.{ℤ, pos, _+ℤ_}
-use Rattle.machine.specs.State.{Machine, Waiting}
+use Rattle.machine.specs.State.{Machine, Pause}
 use Rattle.machine.specs.Shares as shares
 use Rattle.laws.specs.Axes.{directed}
 use Rattle.machine.specs.Steps.{Tried, untried, failed, began}
 use Rattle.machine.specs.Calls.{Call, after, run, state}
-use Rattle.machine.specs.List.{Role, lineOf, takesEffect, moves, stopsIn, resetBy, distanceBy, minusBy, sent, isTick, begins, atStart, isPulse, storedAfter, stored, effect, lastDistance, lastMinus, started, distance, minus, master, counted, signed, stopBegun, goesOn, ends, latest, travel, gone, whole}
+use Rattle.machine.specs.List.{
+  Role,
+  lineOf,
+  takesEffect,
+  moves,
+  stopsIn,
+  resetBy,
+  distanceBy,
+  minusBy,
+  sent,
+  isTick,
+  begins,
+  atStart,
+  isPulse,
+  pauseAfter,
+  dwellBy,
+  lastDwell,
+  paused,
+  effect,
+  lastDistance,
+  lastMinus,
+  started,
+  distance,
+  minus,
+  master,
+  counted,
+  signed,
+  stopBegun,
+  goesOn,
+  ends,
+  latest,
+  travel,
+  gone,
+  whole,
+}
 use Rattle.machine.specs.Demand.{ShareLaw, Answer, Ended, Demand3}
 use Rattle.machine.proofs.BitLaws.{status-moving}
 use Rattle.machine.proofs.ShareLaws.{Share, share-none}
 use Rattle.machine.proofs.RunLaws.{Good, Whole, true-false, and-first}
 use Rattle.machine.proofs.CallLaws.{Called, called}
-use Rattle.machine.proofs.StoredLaws.{stored-next}
+use Rattle.machine.proofs.PauseLaws.{pause-next, dwell-next}
 use Rattle.machine.proofs.FitLaws.{fits}
 
 -- What a list leaves, against what is read off it.
 record Told (s : ℕ) (h : List Call) : Type 0 where
   good : Good (state s h .move)
-  waits : state s h .pause .waiting ≡ stored s h
+  pause : state s h .pause ≡ paused s h
+  dwell : state s h .settings .dwell ≡ lastDwell s h
   nextDistance : (k : ℕ) → state s h .next .distance k ≡ lastDistance s h k
   nextMinus : (k : ℕ) → state s h .next .minus k ≡ lastMinus s h k
   distances : (k : ℕ) → state s h .move .plan .distance k ≡ distance s h k
@@ -46,15 +81,16 @@ Calls s h x =
 called-on : (s : ℕ) (h : List Call) (x : Call) → Told s h → Calls s h x
 called-on s h x t =
     subst
-    (λ (w : Waiting). Called (state s h) (lineOf (state s h) x) (takesEffect (state s h) w x) (stopsIn (state s h) x)
+    (λ (p : Pause). Called (state s h) (lineOf (state s h) x) (takesEffect (state s h) p x) (stopsIn (state s h) x)
     (isTick x) (sent (state s h) x) (after (state s h) x))
-    (t .waits) (called (state s h) x (t .good))
+    (t .pause) (called (state s h) x (t .good))
 
 told-none : (s : ℕ) → Told s []
-unfolding run stored lastDistance lastMinus started distance minus master counted signed stopBegun goesOn
+unfolding run lastDwell paused lastDistance lastMinus started distance minus master counted signed stopBegun goesOn
 told-none s = record {
   good = record { axis = λ k h. share-none 0 0 (omega arith); under = λ q. true-false false q refl };
-  waits = refl;
+  pause = refl;
+  dwell = refl;
   nextDistance = λ k. refl;
   nextMinus = λ k. refl;
   distances = λ k. refl;
@@ -115,10 +151,11 @@ whole-end s h x t b e f = by-flag (isTick x)
     c = called-on s h x t
 
 told-next : (s : ℕ) (h : List Call) (x : Call) → Told s h → Told s (x ∷ h)
-unfolding run stored lastDistance lastMinus started distance minus master counted signed stopBegun goesOn
+unfolding run lastDwell paused lastDistance lastMinus started distance minus master counted signed stopBegun goesOn
 told-next s h x t = record {
   good = c .good;
-  waits = stored-next (state s h) x ∙ ap (storedAfter (state s h) x) (t .waits);
+  pause = pause-next (state s h) x ∙ (λ i. pauseAfter (state s h) (t .pause i) (t .dwell i) x);
+  dwell = dwell-next (state s h) x ∙ ap (dwellBy L) (t .dwell);
   nextDistance = λ k. c .nextDistance k ∙ ap (λ (n : ℕ). distanceBy L k n) (t .nextDistance k);
   nextMinus = λ k. c .nextMinus k ∙ ap (λ (b : Bool). minusBy L k b) (t .nextMinus k);
   distances = λ k. c .distance k ∙ same-start S _ _ _ _ (λ j. t .nextDistance k) (t .distances k);
@@ -198,9 +235,9 @@ module _ (s : ℕ) (h : List Call) (t : Told s h) where
       record {
         longest = a .short;
         positive = p;
-        within = subst (λ (n : ℕ). gone s h ≤ n) same-whole (subst (λ (n : ℕ). n ≤ shares.whole (state s h .move)) same-gone
+        notPast = subst (λ (n : ℕ). gone s h ≤ n) same-whole (subst (λ (n : ℕ). n ≤ shares.whole (state s h .move)) same-gone
             (f .within (state s h .move .master) (f .master)));
-        most = subst (λ (d : ℕ). travel s h k ≤ d) (t .distances k) (f .within k l);
+        atMost = subst (λ (d : ℕ). travel s h k ≤ d) (t .distances k) (f .within k l);
         notAhead = a .low;
         notBehind = a .high p;
         counts = t .counts k l;
@@ -247,7 +284,7 @@ counts-hold s h k l = told s h .counts k l
 
 pub demand-3 : Demand3
 demand-3 s h k l = record {
-  waits = told s h .waits;
+  pause = told s h .pause;
   shares = shares-hold s h (told s h) k l;
   sums = told s h .sums k;
   within = fits s h .places .inside k l;

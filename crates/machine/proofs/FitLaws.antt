@@ -23,7 +23,20 @@ use Rattle.line.specs.Fits.{CommandFits, JudgedFits}
 use Rattle.line.proofs.Fits.{judge-fits}
 use Rattle.receiver.specs.Receiver.{Receipt}
 use Rattle.reply.specs.Reply.{bias}
-use Rattle.machine.specs.State.{Settings, Plan, Move, Machine, Waiting, none, start, Pause, withMove, withSettings, withWatch, withFlags}
+use Rattle.machine.specs.State.{
+  Settings,
+  Plan,
+  Move,
+  Machine,
+  Waiting,
+  none,
+  start,
+  Pause,
+  withMove,
+  withSettings,
+  withWatch,
+  withFlags,
+}
 use Rattle.machine.specs.Shares.{whole, gone, share, pulse}
 use Rattle.machine.specs.Ramp.{
   Ran,

@@ -3,7 +3,7 @@ pub mod ShareLaws
 pub mod RunLaws
 pub mod PositionLaws
 pub mod CallLaws
-pub mod StoredLaws
+pub mod PauseLaws
 pub mod FitLaws
 pub mod DemandLaws
 pub mod MarkedLaws

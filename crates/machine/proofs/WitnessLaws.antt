@@ -3,14 +3,43 @@ use mathlib.Core.Path.{refl}
 use Rattle.digits.specs.Digits.{numberOf}
 use Rattle.line.specs.Line.{judgeOf, judgeForm}
 use Rattle.machine.specs.Calls.{run}
-use Rattle.machine.specs.List.{lastDistance, lastMinus, stored, started, ends, goesOn, stopBegun, distance, minus, master, counted, signed, latest}
-use Rattle.machine.specs.Witness.{begun, ordered, stopped, again, finished, dwelling, waiting, due, early, Witness}
+use Rattle.machine.specs.List.{
+  lastDistance,
+  lastMinus,
+  lastDwell,
+  paused,
+  started,
+  ends,
+  goesOn,
+  stopBegun,
+  distance,
+  minus,
+  master,
+  counted,
+  signed,
+  latest,
+}
+use Rattle.machine.specs.Witness.{
+  begun,
+  ordered,
+  stopped,
+  again,
+  finished,
+  dwelling,
+  waiting,
+  passing,
+  failing,
+  Moved,
+  Stored,
+  TurnedAway,
+  Witness,
+}
 
-pub witness : Witness
+moved : Moved
 unfolding
-    numberOf judgeOf judgeForm run lastDistance lastMinus stored started ends goesOn stopBegun distance minus master
-    counted signed latest begun ordered stopped again finished dwelling waiting due early
-witness = record {
+    numberOf judgeOf judgeForm run lastDistance lastMinus lastDwell paused started ends goesOn stopBegun distance minus
+    master counted signed latest begun ordered stopped again finished
+moved = record {
   resting = refl;
   starts = refl;
   orders = refl;
@@ -23,6 +52,13 @@ witness = record {
   sums = refl;
   distances = refl;
   directions = refl;
+}
+
+stored : Stored
+unfolding
+    numberOf judgeOf judgeForm run lastDistance lastMinus lastDwell paused started ends goesOn stopBegun distance minus
+    master counted signed latest dwelling waiting passing failing
+stored = record {
   dwells = refl;
   replaces = refl;
   waits = refl;
@@ -31,8 +67,28 @@ witness = record {
   named = refl;
   tried = refl;
   passes = refl;
+  lasts = refl;
+  unstores = refl;
+  plain = refl;
+  replaced = refl;
+  undwelt = refl;
   fails = refl;
   rests = refl;
   keeps = refl;
   dropped = refl;
 }
+
+turned : TurnedAway
+unfolding numberOf judgeOf judgeForm run begun
+turned = record {
+  running = refl;
+  emergency = refl;
+  sensor = refl;
+  longer = refl;
+  resting = refl;
+  blocked = refl;
+  outside = refl;
+}
+
+pub witness : Witness
+witness = record { moved = moved; stored = stored; turnedAway = turned }

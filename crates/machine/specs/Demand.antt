@@ -8,7 +8,7 @@ use Rattle.laws.specs.Axes.{directed}
 use Rattle.machine.specs.Starts.{outside}
 use Rattle.machine.specs.Calls.{Call, state}
 use Rattle.machine.specs.List.{
-  stored,
+  paused,
   started,
   distance,
   minus,
@@ -29,8 +29,8 @@ use Rattle.machine.specs.List.{
 pub record ShareLaw (s : ℕ) (h : List Call) (k : ℕ) : Type 0 where
   pub longest : distance s h k ≤ whole s h
   pub positive : 0 < whole s h
-  pub within : gone s h ≤ whole s h
-  pub most : travel s h k ≤ distance s h k
+  pub notPast : gone s h ≤ whole s h
+  pub atMost : travel s h k ≤ distance s h k
   pub notAhead : travel s h k * whole s h ≤ gone s h * distance s h k
   pub notBehind : gone s h * distance s h k < (travel s h k + 1) * whole s h
   pub counts : travel s h k ≡ counted s h k
@@ -48,8 +48,8 @@ pub record Ended (s : ℕ) (h : List Call) (k : ℕ) : Type 0 where
   pub last : 0 < distance s h k → natAbs (latest s h k) ≡ 1
 
 pub record Holds (s : ℕ) (h : List Call) (k : ℕ) : Type 0 where
-  -- the start that the machine has waiting is the one stored by the list's lines
-  pub waits : state s h .pause .waiting ≡ stored s h
+  -- the dwell's ticks left and the waiting start, of which the machine makes its next steps, are those of the list
+  pub pause : state s h .pause ≡ paused s h
   pub shares : started s h ≡ true → ShareLaw s h k
   pub sums : position s h k ≡ signed s h k
   pub within : outside (position s h k) ≡ false

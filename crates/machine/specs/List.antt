@@ -1,20 +1,19 @@
 -- Paper 01, "The list of demand 3": what is read off a list of calls from power-on.
 --
--- Which lines are accepted, when starts take effect and when stops begin is what the machine of paper 01 does on the
--- list (`outcome`, `takesEffect`, `stopsIn`). Distances, directions, stored starts and masters are read off the accepted
--- lines, pulses off the answers of ticks; no counter is kept beside them. `travel` and `position` are the figures that
--- the replies to Q 0-4 and q 0-4 are made from.
-use Prim.Native.Nat.{ℕ, _+_}
+-- Which lines are accepted, which starts a number turns away and when stops begin is what the machine of paper 01 does
+-- on the list (`outcome`, the numbers of ticks, `stopsIn`). Distances, directions, the dwell, stored starts and masters
+-- are read off the accepted lines and the ticks, pulses off the answers of ticks; no counter is kept beside them.
+-- `travel` and `position` are the figures that the replies to Q 0-4 and q 0-4 are made from.
+use Prim.Native.Nat.{ℕ, _+_, _-_, _*_}
 use mathlib.Core.Bool.{Bool, true, false, cond, not, _&&_, _||_}
 use mathlib.Core.List.{List, [], _∷_}
-use lib.Dec.{eqb}
+use lib.Dec.{ltb, eqb}
 use lib.IntN.{ℤ, pos, _+ℤ_, natAbs}
 use Rattle.line.specs.declared.Command.{Command}
 use Rattle.line.specs.declared.Command.the-variants as C
-use Rattle.machine.specs.State.{Machine, Waiting, none, start}
+use Rattle.machine.specs.State.{Machine, Waiting, none, start, Pause}
 use Rattle.laws.specs.Bits.{bit, weight}
-use Rattle.machine.specs.Stops.{takes, cause, status}
-use Rattle.machine.specs.Commands.{stores}
+use Rattle.machine.specs.Stops.{cause, status}
 use Rattle.machine.specs.Replies.{travelOf, positionOf}
 use Rattle.machine.specs.Steps.{
   Outcome,
@@ -27,20 +26,20 @@ use Rattle.machine.specs.Steps.{
   untried,
   failed,
   began,
-  runsOut,
-  triesFor,
   looks,
   tooLarge,
   tickStep,
 }
-use Rattle.machine.specs.Calls.{Call, byte, tick, state}
+use Rattle.machine.specs.Calls.{Call, byte, tick, after, state}
 
 -- ---- What one call is, to the machine m that it is given
 
--- What an accepted line is to the list: a distance line, a start, order 9, a position reset, or none of these.
+-- What an accepted line is to the list: a distance line, a dwell line, a start, order 9, a position reset, or none of
+-- these.
 pub data Role : Type 0 where
   other : Role
   distanceLine : ℕ → Bool → ℕ → Role
+  dwellLine : ℕ → Role
   startLine : ℕ → Bool → Role
   stopOrder : Role
   resetOrder : Role
@@ -49,7 +48,7 @@ abbrev pub roleOf : Command → Role
 roleOf (C.Distance k s d) = distanceLine k s d
 roleOf (C.Speed v) = other
 roleOf (C.Slope v) = other
-roleOf (C.Dwell v) = other
+roleOf (C.Dwell v) = dwellLine v
 roleOf (C.Watch v) = other
 roleOf (C.Polarity v) = other
 roleOf (C.Travel k) = other
@@ -76,41 +75,97 @@ abbrev pub lineOf : Machine → Call → Role
 lineOf m (byte b buffer) = roleBy (outcome m b buffer)
 lineOf m (tick w) = other
 
+-- ---- Starts and the dwell, p being the pause before the call: the ticks of the dwell that are left, and the start that
+-- waits for its end
+
+abbrev pub begins : Tried → Bool
+begins untried = false
+begins (failed n) = false
+begins (began k) = true
+
+-- A start after the dwell is stored if a dwell runs.
+abbrev pub isStored : Pause → Bool → Bool
+isStored p waits = waits && ltb 0 (p .left)
+
 -- A plain start (Q 8, not stored) takes effect as its line is accepted.
-abbrev pub startBy : Machine → Role → Tried
-startBy m other = untried
-startBy m (distanceLine k s d) = untried
-startBy m (startLine k waits) = cond (stores m waits) untried (began k)
-startBy m stopOrder = untried
-startBy m resetOrder = untried
+abbrev pub startBy : Pause → Role → Tried
+startBy p other = untried
+startBy p (distanceLine k s d) = untried
+startBy p (dwellLine v) = untried
+startBy p (startLine k waits) = cond (isStored p waits) untried (began k)
+startBy p stopOrder = untried
+startBy p resetOrder = untried
 
--- A stored start, w, takes effect in the tick that tries it, if no number turns it away.
-abbrev pub takesEffect : Machine → Waiting → Call → Tried
-takesEffect m w (byte b buffer) = startBy m (roleBy (outcome m b buffer))
-takesEffect m w (tick word) = cond (tooLarge word) untried (triesFor (takes m word) w)
+-- A stored start begins a move with the master that it names.
+abbrev pub named : Waiting → Tried
+named none = untried
+named (start k) = began k
 
--- The stored start after a line, w being the one before: a start after the dwell is stored if a dwell runs, and a later
--- one replaces it; a plain start that takes effect drops it, and so does order 9.
-abbrev pub storedBy : Machine → Role → Waiting → Waiting
-storedBy m other w = w
-storedBy m (distanceLine k s d) w = w
-storedBy m (startLine k waits) w = cond (stores m waits) (start k) none
-storedBy m stopOrder w = none
-storedBy m resetOrder w = w
+-- It takes effect in the tick that tries it, in which the dwell becomes 0, if no number turns it away: the tick
+-- answers 0.
+abbrev pub takesEffect : Machine → Pause → Call → Tried
+takesEffect m p (byte b buffer) = startBy p (roleBy (outcome m b buffer))
+takesEffect m p (tick w) =
+    cond (eqb (tickStep m w .number) 0) (cond (eqb (p .left) 1) (named (p .waiting)) untried) untried
 
--- The stored start after a call: one that is tried as the dwell runs out is dropped, begun or not.
-abbrev pub storedAfter : Machine → Call → Waiting → Waiting
-storedAfter m (byte b buffer) w = storedBy m (roleBy (outcome m b buffer)) w
-storedAfter m (tick word) w = cond (tooLarge word) w (cond (runsOut (takes m word)) none w)
+-- A start that is stored waits, and a later one replaces it; a plain start that takes effect drops it, and so does
+-- order 9.
+abbrev pub waitingBy : Pause → Role → Waiting
+waitingBy p other = p .waiting
+waitingBy p (distanceLine k s d) = p .waiting
+waitingBy p (dwellLine v) = p .waiting
+waitingBy p (startLine k waits) = cond (isStored p waits) (start k) none
+waitingBy p stopOrder = none
+waitingBy p resetOrder = p .waiting
+
+-- One that is tried is dropped, begun or not.
+abbrev pub waitingAfter : Machine → Pause → Call → Waiting
+waitingAfter m p (byte b buffer) = waitingBy p (roleBy (outcome m b buffer))
+waitingAfter m p (tick w) = cond (tooLarge w) (p .waiting) (cond (eqb (p .left) 1) none (p .waiting))
 
 -- Status bit 1.
 abbrev pub moves : Machine → Bool
 moves m = bit (status m) 1
 
+abbrev pub isTick : Call → Bool
+isTick (byte b buffer) = false
+isTick (tick w) = true
+
+-- A tick that is not turned away.
+abbrev pub isTaken : Call → Bool
+isTaken (byte b buffer) = false
+isTaken (tick w) = not (tooLarge w)
+
+-- A tick ends the move that runs or begins in it: after it status bit 1 is 0.
+abbrev pub restsIn : Machine → Pause → Call → Bool
+restsIn m p x = isTick x && ((begins (takesEffect m p x) || moves m) && not (moves (after m x)))
+
+-- At any end the dwell starts, 250 ticks for each ms set; a start that takes effect ends it; a tick counts it down.
+abbrev pub leftAfter : Machine → Pause → ℕ → Call → ℕ
+leftAfter m p ms x =
+    cond (restsIn m p x) (250 * ms)
+    (cond (begins (takesEffect m p x)) 0
+    (cond (isTaken x) (p .left - 1) (p .left)))
+
+abbrev pub pauseAfter : Machine → Pause → ℕ → Call → Pause
+pauseAfter m p ms x = record { left = leftAfter m p ms x; waiting = waitingAfter m p x }
+
+-- The dwell set after a line, in ms.
+abbrev pub dwellBy : Role → ℕ → ℕ
+dwellBy other old = old
+dwellBy (distanceLine k s d) old = old
+dwellBy (dwellLine v) old = v
+dwellBy (startLine k waits) old = old
+dwellBy stopOrder old = old
+dwellBy resetOrder old = old
+
+-- ---- Stops, resets, distances and pulses
+
 -- A stop begins where order 9 is accepted with status bit 1 set ..
 abbrev pub stopBy : Machine → Role → Bool
 stopBy m other = false
 stopBy m (distanceLine k s d) = false
+stopBy m (dwellLine v) = false
 stopBy m (startLine k waits) = false
 stopBy m stopOrder = moves m
 stopBy m resetOrder = false
@@ -124,6 +179,7 @@ stopsIn m (tick w) = cond (tooLarge w) false (cause (looks m w))
 abbrev pub resetBy : Role → Bool
 resetBy other = false
 resetBy (distanceLine k s d) = false
+resetBy (dwellLine v) = false
 resetBy (startLine k waits) = false
 resetBy stopOrder = false
 resetBy resetOrder = true
@@ -132,6 +188,7 @@ resetBy resetOrder = true
 abbrev pub distanceBy : Role → ℕ → ℕ → ℕ
 distanceBy other k old = old
 distanceBy (distanceLine j s d) k old = cond (eqb k j) d old
+distanceBy (dwellLine v) k old = old
 distanceBy (startLine j waits) k old = old
 distanceBy stopOrder k old = old
 distanceBy resetOrder k old = old
@@ -139,6 +196,7 @@ distanceBy resetOrder k old = old
 abbrev pub minusBy : Role → ℕ → Bool → Bool
 minusBy other k old = old
 minusBy (distanceLine j s d) k old = cond (eqb k j) s old
+minusBy (dwellLine v) k old = old
 minusBy (startLine j waits) k old = old
 minusBy stopOrder k old = old
 minusBy resetOrder k old = old
@@ -147,15 +205,6 @@ minusBy resetOrder k old = old
 abbrev pub sent : Machine → Call → ℕ → ℤ
 sent m (byte b buffer) k = pos 0
 sent m (tick w) k = tickStep m w .pulse k
-
-abbrev pub isTick : Call → Bool
-isTick (byte b buffer) = false
-isTick (tick w) = true
-
-abbrev pub begins : Tried → Bool
-begins untried = false
-begins (failed n) = false
-begins (began k) = true
 
 -- A value that a start sets anew from its master, and that stays otherwise.
 abbrev pub atStart : {A : Type 0} → Tried → (ℕ → A) → A → A
@@ -174,14 +223,19 @@ unfoldable pub lastMinus : ℕ → List Call → ℕ → Bool
 lastMinus s [] k = false
 lastMinus s (x ∷ h) k = minusBy (lineOf (state s h) x) k (lastMinus s h k)
 
--- The start that waits for the end of the dwell: the last start line that was stored, unless it is gone.
-unfoldable pub stored : ℕ → List Call → Waiting
-stored s [] = none
-stored s (x ∷ h) = storedAfter (state s h) x (stored s h)
+-- The last accepted dwell line, 0 without one.
+unfoldable pub lastDwell : ℕ → List Call → ℕ
+lastDwell s [] = 0
+lastDwell s (x ∷ h) = dwellBy (lineOf (state s h) x) (lastDwell s h)
+
+-- The pause: the ticks of the dwell that are left, and the start that waits for its end.
+unfoldable pub paused : ℕ → List Call → Pause
+paused s [] = record { left = 0; waiting = none }
+paused s (x ∷ h) = pauseAfter (state s h) (paused s h) (lastDwell s h) x
 
 -- The start that takes effect in a call x after the list, if one does.
 abbrev pub effect : ℕ → List Call → Call → Tried
-effect s h x = takesEffect (state s h) (stored s h) x
+effect s h x = takesEffect (state s h) (paused s h) x
 
 -- Whether a start has taken effect. That begins a move, the latest until another start takes effect.
 unfoldable pub started : ℕ → List Call → Bool
@@ -202,11 +256,12 @@ unfoldable pub master : ℕ → List Call → ℕ
 master s [] = 0
 master s (x ∷ h) = atStart (effect s h x) (λ j. j) (master s h)
 
--- The answers that are not 0 of all ticks since the latest move's start took effect, for a stored start that very tick
--- included.
+-- 1 for an answer that is not 0.
 abbrev pub isPulse : ℤ → ℕ
 isPulse z = weight (not (eqb (natAbs z) 0)) 1
 
+-- The answers that are not 0 of all ticks since the latest move's start took effect, for a stored start that very tick
+-- included.
 unfoldable pub counted : ℕ → List Call → ℕ → ℕ
 counted s [] k = 0
 counted s (x ∷ h) k = cond (begins (effect s h x)) 0 (counted s h k) + isPulse (sent (state s h) x k)

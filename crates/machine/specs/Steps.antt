@@ -128,11 +128,8 @@ abbrev pub runsOut : Machine → Bool
 runsOut m = eqb (m .pause .left) 1
 
 -- When it does, a waiting start is tried.
-abbrev pub triesFor : Machine → Waiting → Tried
-triesFor m w = cond (runsOut m) (tryWaiting m w) untried
-
 abbrev pub tries : Machine → Tried
-tries m = triesFor m (m .pause .waiting)
+tries m = cond (runsOut m) (tryWaiting m (m .pause .waiting)) untried
 
 abbrev pub counts : Machine → Machine
 counts m = withPause m (record { left = m .pause .left - 1; waiting = m .pause .waiting })

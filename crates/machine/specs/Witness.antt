@@ -1,7 +1,8 @@
 -- Lists of calls to which demand 3 has something to say. One: a start takes effect, its move is stopped by order 9 at a
--- crooked pulse, and another runs to its end. Distances 5, 2 and minus 3, master 0, switch 0. Another, with a dwell of
+-- pulse where the shares are no whole numbers, and another runs to its end. Distances 5, 2 and minus 3, master 0, switch 0. Another, with a dwell of
 -- 1 ms: a start stored in the dwell begins with the master that it names, and one fails as its dwell runs out.
 use Prim.Native.Nat.{ℕ}
+use Prim.Native.String.{String}
 use mathlib.Core.Bool.{Bool, true, false}
 use mathlib.Core.List.{List, [], _∷_}
 use mathlib.Core.Path.{_≡_}
@@ -9,14 +10,29 @@ use lib.IntN.{ℤ, pos, negsuc}
 use Rattle.laws.specs.Axes.{each}
 use Rattle.machine.specs.State.{none, start}
 use Rattle.machine.specs.Steps.{tickStep}
-use Rattle.machine.specs.Calls.{Call, tick, state, line, ticks}
-use Rattle.machine.specs.List.{stored, started, ends, goesOn, stopBegun, distance, minus, master, travel, counted, position, signed, latest}
+use Rattle.machine.specs.Calls.{Call, tick, state, line, lines, ticks}
+use Rattle.machine.specs.Marked.{told}
+use Rattle.machine.specs.List.{
+  paused,
+  started,
+  ends,
+  goesOn,
+  stopBegun,
+  distance,
+  minus,
+  master,
+  travel,
+  counted,
+  position,
+  signed,
+  latest,
+}
 
 -- ---- The lists, the latest call first; ticks have the input word 0
 
 -- Distances, speed and slope.
 abbrev pub prepared : List Call
-prepared = line "P0900FFF" (line "P08F4240" (line "P0280003" (line "P0100002" (line "P0000005" []))))
+prepared = lines ("P0000005" ∷ "P0100002" ∷ "P0280003" ∷ "P08F4240" ∷ "P0900FFF" ∷ []) []
 
 -- The start; order 9 under way; the tick that ends the stopped move; the start again; the tick that ends that move.
 unfoldable pub begun : List Call
@@ -41,9 +57,7 @@ finished = ticks 480 0 again
 -- A move of one pulse that axis 2 makes as master, ended in its 207th tick, with a dwell of 1 ms; then a start with
 -- master 2 is stored (Q08A), and one with master 1 (Q089), which replaces it.
 unfoldable pub dwelling : List Call
-dwelling =
-    ticks 207 0
-    (line "Q082" (line "P0A00001" (line "P0900FFF" (line "P08F4240" (line "P0280001" [])))))
+dwelling = ticks 207 0 (lines ("P0280001" ∷ "P08F4240" ∷ "P0900FFF" ∷ "P0A00001" ∷ "Q082" ∷ []) [])
 
 unfoldable pub waiting : List Call
 unfolding dwelling
@@ -51,13 +65,17 @@ waiting = line "Q089" (line "Q08A" dwelling)
 
 -- The distances that the stored start is to find: axis 1 is as long as axis 2 in the one list, shorter in the other. The
 -- dwell runs out in its 250th tick.
-unfoldable pub due : List Call
+unfoldable pub passing : List Call
 unfolding waiting
-due = ticks 249 0 (line "P0100001" waiting)
+passing = ticks 249 0 (line "P0100001" waiting)
 
-unfoldable pub early : List Call
+unfoldable pub failing : List Call
 unfolding waiting
-early = ticks 249 0 waiting
+failing = ticks 249 0 waiting
+
+-- A move of one pulse of axis 0.
+abbrev pub moveOfOne : List String
+moveOfOne = "P0000001" ∷ "P08F4240" ∷ "P0900FFF" ∷ "Q080" ∷ []
 
 -- ---- What demand 3 reads off a list
 
@@ -88,7 +106,8 @@ figuresOf h = record {
 abbrev pub toldBy : List Call → ℕ
 toldBy h = tickStep (state 0 h) 0 .number
 
-pub record Witness : Type 0 where
+-- The first list.
+pub record Moved : Type 0 where
   -- no start has taken effect before the line that starts, and one has with it
   pub resting : phaseOf prepared ≡ record { started = false; goesOn = false; stopBegun = false; ends = false }
   pub starts : phaseOf begun ≡ record { started = true; goesOn = true; stopBegun = false; ends = false }
@@ -115,17 +134,48 @@ pub record Witness : Type 0 where
   -- distances and directions are those of the distance lines
   pub distances : each (distance 0 finished) ≡ 5 ∷ 2 ∷ 3 ∷ 0 ∷ 0 ∷ []
   pub directions : each (minus 0 finished) ≡ false ∷ false ∷ true ∷ false ∷ false ∷ []
+
+-- The lists with a dwell.
+pub record Stored : Type 0 where
   -- the later of two starts stored in a dwell waits until its last tick, and there begins with the master that it names
   pub dwells : phaseOf dwelling ≡ record { started = true; goesOn = false; stopBegun = false; ends = true }
-  pub replaces : stored 0 waiting ≡ start 1
-  pub waits : stored 0 due ≡ start 1
-  pub before : phaseOf due ≡ record { started = true; goesOn = false; stopBegun = false; ends = false }
-  pub begins : phaseOf (tick 0 ∷ due) ≡ record { started = true; goesOn = true; stopBegun = false; ends = false }
-  pub named : master 0 (tick 0 ∷ due) ≡ 1
-  pub tried : stored 0 (tick 0 ∷ due) ≡ none
-  pub passes : toldBy due ≡ 0
+  pub replaces : paused 0 waiting .waiting ≡ start 1
+  pub waits : paused 0 passing .waiting ≡ start 1
+  pub before : phaseOf passing ≡ record { started = true; goesOn = false; stopBegun = false; ends = false }
+  pub begins : phaseOf (tick 0 ∷ passing) ≡ record { started = true; goesOn = true; stopBegun = false; ends = false }
+  pub named : master 0 (tick 0 ∷ passing) ≡ 1
+  pub tried : paused 0 (tick 0 ∷ passing) .waiting ≡ none
+  pub passes : toldBy passing ≡ 0
+  -- that tick is the first of its move: a move of one pulse ends in the 207th, counted from it
+  pub lasts : phaseOf (ticks 207 0 passing) ≡ record { started = true; goesOn = false; stopBegun = false; ends = true }
+  -- order 9 drops it; a plain start in the dwell begins at once and drops it; with no dwell a start after the dwell is
+  -- a plain one
+  pub unstores : paused 0 (line "Q09" waiting) .waiting ≡ none
+  pub plain : phaseOf (line "Q082" waiting) ≡ record { started = true; goesOn = true; stopBegun = false; ends = false }
+  pub replaced : paused 0 (line "Q082" waiting) .waiting ≡ none
+  pub undwelt : phaseOf (line "Q088" prepared) ≡ record { started = true; goesOn = true; stopBegun = false; ends = false }
   -- with an axis longer than that master it fails there with 14 and is dropped, and no move begins
-  pub fails : toldBy early ≡ 14
-  pub rests : phaseOf (tick 0 ∷ early) ≡ record { started = true; goesOn = false; stopBegun = false; ends = false }
-  pub keeps : master 0 (tick 0 ∷ early) ≡ 2
-  pub dropped : stored 0 (tick 0 ∷ early) ≡ none
+  pub fails : toldBy failing ≡ 14
+  pub rests : phaseOf (tick 0 ∷ failing) ≡ record { started = true; goesOn = false; stopBegun = false; ends = false }
+  pub keeps : master 0 (tick 0 ∷ failing) ≡ 2
+  pub dropped : paused 0 (tick 0 ∷ failing) .waiting ≡ none
+
+-- What a start is answered after some lines, and after a tick.
+abbrev pub answerTo : List Call → ℕ
+answerTo h = told (state 0 h) "Q080" .number
+
+-- A start is turned away by each of its numbers: a move runs; emergency held; sensor active; an axis longer than the
+-- master; master distance 0; an axis blocked; a final position out of range, a pulse after 524,287 more.
+pub record TurnedAway : Type 0 where
+  pub running : answerTo begun ≡ 11
+  pub emergency : answerTo (tick 0 ∷ lines ("Q0D01000" ∷ []) prepared) ≡ 12
+  pub sensor : answerTo (lines ("Q0D02000" ∷ []) prepared) ≡ 13
+  pub longer : answerTo (lines ("P0100006" ∷ []) prepared) ≡ 14
+  pub resting : answerTo [] ≡ 15
+  pub blocked : answerTo (lines ("P0080001" ∷ "Q0D00001" ∷ []) []) ≡ 16
+  pub outside : answerTo (lines ("P007FFFF" ∷ []) (ticks 207 0 (lines moveOfOne []))) ≡ 17
+
+pub record Witness : Type 0 where
+  pub moved : Moved
+  pub stored : Stored
+  pub turnedAway : TurnedAway
