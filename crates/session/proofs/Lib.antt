@@ -3,5 +3,6 @@ mod SumLaws
 mod TextLaws
 mod KeptLaws
 mod PrintLaws
-mod SessionLaws
+pub mod SessionLaws
 mod LineLaws
+pub mod AfterLaws

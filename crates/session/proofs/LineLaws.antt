@@ -11,7 +11,7 @@ use Rattle.machine.specs.State.{Machine}
 use Rattle.machine.specs.Steps.{byteStep}
 use Rattle.session.specs.Asked.{askedOf}
 use Rattle.session.specs.Session.{sending, asking, Answer, shown, buffer, asks}
-use Rattle.session.specs.Lines.{prints, atLine, goesIn, lineDone, isLine, Lines}
+use Rattle.session.specs.Lines.{prints, atLine, Done, goesIn, doneBy, lineDone, isLine, Lines}
 
 -- A character of a line is no line feed, and the rest is a line.
 char : (t r : Bool) → not t && r ≡ true → t ≡ false
@@ -81,18 +81,19 @@ whole-line m (c ∷ cs) rest e = rw (char (eqb c 10) (isLine cs) e) (by (eqb c 8
     r = rest-line (eqb c 10) (isLine cs) e
 
     kept : Answer
-    kept = record { bench = record { machine = m; place = asking (c ∷ []) }; printed = [] }
+    kept = record { bench = record { machine = m; place = asking (c ∷ []) }; printed = []; number = 0 }
 
     gone : Answer
     gone = record {
       bench = record { machine = byteStep m c buffer .machine; place = sending };
       printed = shown (byteStep m c buffer .reply);
+      number = byteStep m c buffer .number;
     }
 
     by : (t : Bool)
         → cond t kept gone .printed ++ prints (cond t kept gone .bench) (cs ++ (10 ∷ rest))
-        ≡ cond t (asks m (askedOf (c ∷ cs))) (goesIn m (c ∷ (cs ++ (13 ∷ [])))) .printed
-        ++ prints (cond t (asks m (askedOf (c ∷ cs))) (goesIn m (c ∷ (cs ++ (13 ∷ [])))) .bench) rest
+        ≡ cond t (doneBy (asks m (askedOf (c ∷ cs)))) (goesIn m (c ∷ (cs ++ (13 ∷ [])))) .printed
+        ++ prints (cond t (doneBy (asks m (askedOf (c ∷ cs)))) (goesIn m (c ∷ (cs ++ (13 ∷ [])))) .bench) rest
     by true = asking-whole m (c ∷ []) cs rest r
     by false =
         ap (λ (x : List ℕ). shown (byteStep m c buffer .reply) ++ x)
@@ -108,17 +109,18 @@ last-line m c cs e = rw (char (eqb c 10) (isLine cs) e) (by (eqb c 84))
     r = rest-line (eqb c 10) (isLine cs) e
 
     kept : Answer
-    kept = record { bench = record { machine = m; place = asking (c ∷ []) }; printed = [] }
+    kept = record { bench = record { machine = m; place = asking (c ∷ []) }; printed = []; number = 0 }
 
     gone : Answer
     gone = record {
       bench = record { machine = byteStep m c buffer .machine; place = sending };
       printed = shown (byteStep m c buffer .reply);
+      number = byteStep m c buffer .number;
     }
 
     by : (t : Bool)
         → cond t kept gone .printed ++ prints (cond t kept gone .bench) cs
-        ≡ cond t (asks m (askedOf (c ∷ cs))) (goesIn m (c ∷ (cs ++ (13 ∷ [])))) .printed
+        ≡ cond t (doneBy (asks m (askedOf (c ∷ cs)))) (goesIn m (c ∷ (cs ++ (13 ∷ [])))) .printed
     by true = asking-last m (c ∷ []) cs r
     by false =
         ap (λ (x : List ℕ). shown (byteStep m c buffer .reply) ++ x) (sending-last (byteStep m c buffer .machine) cs r)

@@ -107,11 +107,12 @@ over-shown s d = rw (take-append-seam s (drop (length s) d), shown-length s, dro
 
 pub sent-is : (m : Machine) (b : ℕ) (d : List ℕ) (a : ByteAnswer) (x y : List ℕ) → 120 ≤ length d
     → a ≡ heldByte (byteStep m b d) → x ≡ bufferAfter (byteStep m b d) d → y ≡ over (shown (take (a .length) x)) x
-    → Passed (record { controller = a .controller; length = a .length }) y d (byteStep m b buffer)
+    → Passed (record { controller = a .controller; length = a .length; number = a .number }) y d (byteStep m b buffer)
 sent-is m b d a x y h e p q = (
   λ i. record {
     controller = whole i .controller;
     length = (ap (λ (z : ByteAnswer). z .length) whole ∙ sym (shown-length reply)) i;
+    number = whole i .number;
   },
   q ∙ (λ i. over (shown (take (whole i .length) (laid i))) (laid i)) ∙ over-shown reply d,
 )

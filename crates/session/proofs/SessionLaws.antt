@@ -14,7 +14,7 @@ use Rattle.block.specs.Block.{over}
 use Rattle.block.proofs.Buffers.{stores, over-nil}
 use Rattle.machine.specs.State.{Machine}
 use Rattle.machine.specs.Steps.{powerOn, byteStep}
-use Rattle.machine.specs.Calls.{Call, byte, run, state}
+use Rattle.machine.specs.Calls.{Call, byte, state}
 use Rattle.controller.specs.declared.Controller.{Controller}
 use Rattle.controller.specs.Held.{held}
 use Rattle.controller.specs.Reach.{Reachable}
@@ -35,6 +35,7 @@ use Rattle.session.specs.Session.{
   starting,
   sending,
   asking,
+  Bench,
   Answer,
   buffer,
   fresh,
@@ -45,6 +46,7 @@ use Rattle.session.specs.Session.{
   characterAt,
   taken,
   rests,
+  untaken,
   finished,
   heldPlace,
   keptIn,
@@ -56,6 +58,7 @@ use Rattle.session.specs.Session.{
   Passed,
   stoodAt,
   atStart,
+  untakenOf,
   keptOf,
 }
 use Rattle.session.proofs.SumLaws.{past, past-state}
@@ -72,10 +75,10 @@ module _ (m : Machine) (d x : List ℕ) where
 
   pub ticks-told : (n w : ℕ) (ran : Ran) (l : ℕ) (r : Taken) → 120 ≤ length d → ran ≡ ranOf n w m
       → l ≡ sumsLength (ran .sums) d → x ≡ sumsOver (ran .sums) d
-      → r ≡ stoodAt (record { controller = ran .controller; length = l }) Start
+      → r ≡ stoodAt (record { controller = ran .controller; length = l; number = ran .number }) Start
       → Told r x d (asks m (Ticks n w))
   ticks-told n w ran l r h e p q s = (
-    s ∙ (λ i. stoodAt (record { controller = e i .controller; length = size i }) Start),
+    s ∙ (λ i. stoodAt (record { controller = e i .controller; length = size i; number = e i .number }) Start),
     q ∙ wrote ∙ ap (λ (y : Ran). over (sumsText 5 (y .sums)) d) e,
   )
     where
@@ -102,7 +105,7 @@ module _ (m : Machine) (d x : List ℕ) where
 pub fresh-told : (c : Controller) (k : Kept) → c ≡ held (powerOn 0) → k ≡ keeping []
     → (record { controller = c; kept = k; place = Start } ≡ heldBench fresh)
     × Running (record { controller = c; kept = k; place = Start })
-unfolding run
+unfolding state
 fresh-told c k p q = (e, record { switch = 0; history = []; place = starting; made = sym e })
   where
     e : record { controller = c; kept = k; place = Start } ≡ heldBench fresh
@@ -194,9 +197,15 @@ module _ (m : Machine) (p : Place) (s : Session) (e : heldBench (record { machin
     sym (over-nil d),
   )
 
+  -- Nothing is altered and nothing printed; n is the number told.
+  at-rest : (n : ℕ) (d : List ℕ)
+      → Told (record { session = s; length = 0; number = n }) d d
+      (record { bench = record { machine = m; place = p }; printed = []; number = n })
+  at-rest n d = (λ i. record { session = sym e i; length = 0; number = n }, sym (over-nil d))
+
   pub rests-told : (d : List ℕ)
-      → Told (record { session = s; length = 0 }) d d (rests (record { machine = m; place = p }))
-  rests-told d = (λ i. record { session = sym e i; length = 0 }, sym (over-nil d))
+      → Told (record { session = s; length = 0; number = 0 }) d d (rests (record { machine = m; place = p }))
+  rests-told = at-rest 0
 
   pub start-finished : s .place ≡ Start
       → rests (record { machine = m; place = p }) ≡ finished (record { machine = m; place = p })
@@ -225,12 +234,12 @@ module _ (m : Machine) (p : Place) (s : Session) (e : heldBench (record { machin
       each (asking l) z = refl
 
   -- A buffer under 120 bytes, or not.
-  pub short-told : (r : Taken) (x d : List ℕ) (a : Answer) → length d < 120
-      → Told r x d (rests (record { machine = m; place = p })) → Told r x d
-      (unless d (record { machine = m; place = p }) a)
-  short-told r x d a h t =
-      subst (λ (y : Answer). Told r x d y)
-      (on-lt (length d) 120 (rests (record { machine = m; place = p })) _ a h refl) t
+  pub short-told : (r : Taken) (d : List ℕ) (a : Answer) → length d < 120 → r ≡ untakenOf s
+      → Told r d d (unless d (record { machine = m; place = p }) a)
+  short-told r d a h q =
+      subst (λ (y : Answer). Told r d d y)
+      (on-lt (length d) 120 (untaken (record { machine = m; place = p })) _ a h refl)
+      (q ∙ at-rest 2 d .0, at-rest 2 d .1)
 
   pub long-told : (r : Taken) (x d : List ℕ) (a b : Answer) → 120 ≤ length d → a ≡ b
       → Told r x d a → Told r x d (unless d (record { machine = m; place = p }) b)
@@ -238,71 +247,86 @@ module _ (m : Machine) (p : Place) (s : Session) (e : heldBench (record { machin
 
 -- ---- the next session
 
+-- Some list of calls and some place make the bench x.
+pub record Lives (x : Bench) : Type 0 where
+  pub switch : ℕ
+  pub history : List Call
+  pub place : Place
+  pub is : record { machine = state switch history; place = place } ≡ x
+
+-- What holds of every bench that the session s holds holds of x.
+pub runs-at : (s : Session) (P : Bench → Type 0) → Runs s P → (x : Bench) → Lives x → heldBench x ≡ s → P x
+runs-at s P r x l e = subst P (l .is) (r (l .switch) (l .history) (l .place) (ap heldBench (l .is) ∙ e))
+
+pub lives-running : (x : Bench) → Lives x → Running (heldBench x)
+lives-running x l = record {
+  switch = l .switch;
+  history = l .history;
+  place = l .place;
+  made = ap heldBench (l .is);
+}
+
 module _ (w : ℕ) (h : List Call) where
-  asks-running : (a : Asked) → Running (heldBench (asks (state w h) a .bench))
-  asks-running Malformed = record { switch = w; history = h; place = starting; made = refl }
-  asks-running (Ticks n x) = record {
+  asks-lives : (a : Asked) → Lives (asks (state w h) a .bench)
+  asks-lives Malformed = record { switch = w; history = h; place = starting; is = refl }
+  asks-lives (Ticks n x) = record {
     switch = w;
     history = past n x h;
     place = starting;
-    made = ap (λ (m : Machine). heldBench (record { machine = m; place = starting })) (past-state w x h n);
+    is = ap (λ (m : Machine). record { machine = m; place = starting }) (past-state w x h n);
   }
 
-  sends-running : (b : ℕ) (p : Place) → Running (heldBench (sends (state w h) b p .bench))
-  unfolding run
-  sends-running b p = record { switch = w; history = byte b buffer ∷ h; place = p; made = refl }
+  sends-lives : (b : ℕ) (p : Place) → Lives (sends (state w h) b p .bench)
+  unfolding state
+  sends-lives b p = record { switch = w; history = byte b buffer ∷ h; place = p; is = refl }
 
-  keeps-running : (l : List ℕ) → Running (heldBench (keeps (state w h) l .bench))
-  keeps-running l = record { switch = w; history = h; place = asking l; made = refl }
+  keeps-lives : (l : List ℕ) → Lives (keeps (state w h) l .bench)
+  keeps-lives l = record { switch = w; history = h; place = asking l; is = refl }
 
-  rests-running : (p : Place) → Running (heldBench (record { machine = state w h; place = p }))
-  rests-running p = record { switch = w; history = h; place = p; made = refl }
+  pub rests-lives : (p : Place) → Lives (record { machine = state w h; place = p })
+  rests-lives p = record { switch = w; history = h; place = p; is = refl }
 
-  ended-running : (p : Place) → Running (heldBench (endedAt (state w h) p .bench))
-  ended-running starting = sends-running 13 starting
-  ended-running sending = sends-running 13 starting
-  ended-running (asking l) = asks-running (askedOf l)
+  ended-lives : (p : Place) → Lives (endedAt (state w h) p .bench)
+  ended-lives starting = sends-lives 13 starting
+  ended-lives sending = sends-lives 13 starting
+  ended-lives (asking l) = asks-lives (askedOf l)
 
-  character-running : (b : ℕ) (p : Place) → Running (heldBench (characterAt (state w h) p b .bench))
-  character-running b starting =
-      by-bool (λ (a : Answer). Running (heldBench (a .bench))) (eqb b 84) _ _ (λ e. keeps-running (b ∷ []))
-      (λ e. sends-running b sending)
-  character-running b sending = sends-running b sending
-  character-running b (asking l) = keeps-running (l ++ (b ∷ []))
+  character-lives : (b : ℕ) (p : Place) → Lives (characterAt (state w h) p b .bench)
+  character-lives b starting =
+      by-bool (λ (a : Answer). Lives (a .bench)) (eqb b 84) _ _ (λ e. keeps-lives (b ∷ []))
+      (λ e. sends-lives b sending)
+  character-lives b sending = sends-lives b sending
+  character-lives b (asking l) = keeps-lives (l ++ (b ∷ []))
 
-  pub taken-running : (b : ℕ) (p : Place)
-      → Running (heldBench (taken (record { machine = state w h; place = p }) b .bench))
-  taken-running b p =
-      by-bool (λ (a : Answer). Running (heldBench (a .bench))) (eqb b 10) _ _ (λ e. ended-running p)
-      (λ e. character-running b p)
+  pub taken-lives : (b : ℕ) (p : Place) → Lives (taken (record { machine = state w h; place = p }) b .bench)
+  taken-lives b p =
+      by-bool (λ (a : Answer). Lives (a .bench)) (eqb b 10) _ _ (λ e. ended-lives p) (λ e. character-lives b p)
 
-  pub finished-running : (p : Place) → Running (heldBench (finished (record { machine = state w h; place = p }) .bench))
-  finished-running starting = rests-running starting
-  finished-running sending = ended-running sending
-  finished-running (asking l) = ended-running (asking l)
+  finished-lives : (p : Place) → Lives (finished (record { machine = state w h; place = p }) .bench)
+  finished-lives starting = rests-lives starting
+  finished-lives sending = ended-lives sending
+  finished-lives (asking l) = ended-lives (asking l)
 
-  unless-running : (d : List ℕ) (p : Place) (a : Answer) → Running (heldBench (a .bench))
-      → Running (heldBench (unless d (record { machine = state w h; place = p }) a .bench))
-  unless-running d p a r =
-      by-bool (λ (x : Answer). Running (heldBench (x .bench))) (ltb (length d) 120) _ _ (λ e. rests-running p) (λ e. r)
+  unless-lives : (d : List ℕ) (p : Place) (a : Answer) → Lives (a .bench)
+      → Lives (unless d (record { machine = state w h; place = p }) a .bench)
+  unless-lives d p a r =
+      by-bool (λ (x : Answer). Lives (x .bench)) (ltb (length d) 120) _ _ (λ e. rests-lives p) (λ e. r)
 
 -- What holds of every bench that the session holds, and that the next session is again one that calls made.
-pub taken-told : (s : Session) (b : ℕ) (r : Taken) (x d : List ℕ) → Running s
-    → Runs s (λ y. Told r x d (unless d y (taken y b)))
-    → Runs s (λ y. Told r x d (unless d y (taken y b))) × Running (r .session)
-taken-told s b r x d run t = (
-  t,
-  subst Running (sym (ap (λ (y : Taken). y .session) (t (run .switch) (run .history) (run .place) (run .made) .0)))
-      (unless-running (run .switch) (run .history) d (run .place) _
-      (taken-running (run .switch) (run .history) b (run .place))),
-)
+module _ (s : Session) (r : Taken) (x d : List ℕ) (run : Running s) where
+  next-running : (f : Bench → Answer)
+      → Runs s (λ y. Told r x d (unless d y (f y)))
+      → Lives (f (record { machine = state (run .switch) (run .history); place = run .place }) .bench)
+      → Running (r .session)
+  next-running f t l =
+      subst Running (sym (ap (λ (y : Taken). y .session) (t (run .switch) (run .history) (run .place) (run .made) .0)))
+      (lives-running _ (unless-lives (run .switch) (run .history) d (run .place) _ l))
 
-pub finished-told : (s : Session) (r : Taken) (x d : List ℕ) → Running s
-    → Runs s (λ y. Told r x d (unless d y (finished y)))
-    → Runs s (λ y. Told r x d (unless d y (finished y))) × Running (r .session)
-finished-told s r x d run t = (
-  t,
-  subst Running (sym (ap (λ (y : Taken). y .session) (t (run .switch) (run .history) (run .place) (run .made) .0)))
-      (unless-running (run .switch) (run .history) d (run .place) _
-      (finished-running (run .switch) (run .history) (run .place))),
-)
+  pub taken-told : (b : ℕ) → Runs s (λ y. Told r x d (unless d y (taken y b)))
+      → Runs s (λ y. Told r x d (unless d y (taken y b))) × Running (r .session)
+  taken-told b t =
+      (t, next-running (λ y. taken y b) t (taken-lives (run .switch) (run .history) b (run .place)))
+
+  pub finished-told : Runs s (λ y. Told r x d (unless d y (finished y)))
+      → Runs s (λ y. Told r x d (unless d y (finished y))) × Running (r .session)
+  finished-told t = (t, next-running finished t (finished-lives (run .switch) (run .history) (run .place)))

@@ -18,13 +18,13 @@ use Rattle.laws.proofs.Five.{five}
 use Rattle.machine.specs.State.{Machine}
 use Rattle.machine.specs.Steps.{tickStep}
 use Rattle.machine.specs.Starts.{outside}
-use Rattle.machine.specs.Calls.{Call, tick, run, state}
-use Rattle.machine.specs.List.{signed, position, latest}
+use Rattle.machine.specs.Calls.{Call, tick, state}
+use Rattle.machine.specs.Demand.{signed, position, latest}
 use Rattle.machine.proofs.DemandLaws.{demand-3}
 use Rattle.controller.specs.declared.Controller.{Controller}
 use Rattle.controller.specs.Held.{held}
 use Rattle.session.specs.declared.ticks.Ran.{Ran}
-use Rattle.session.specs.Ticks.{afterTicks, sumOf, ranOf, tickedOf, Room, Rooms, Small}
+use Rattle.session.specs.Ticks.{afterTicks, sumOf, numberIn, ranOf, tickedOf, Room, Rooms, Small}
 
 -- ---- what a sum's bits are
 
@@ -107,7 +107,7 @@ past (suc n) w h = tick w ∷ past n w h
 
 module _ (s w : ℕ) (h : List Call) where
   pub past-state : (n : ℕ) → state s (past n w h) ≡ afterTicks n w (state s h)
-  unfolding run afterTicks past
+  unfolding state afterTicks past
   past-state zero = refl
   past-state (suc n) = ap (λ (m : Machine). tickStep m w .machine) (past-state n)
 
@@ -156,18 +156,18 @@ module _ (s w : ℕ) (h : List Call) where
       (room-of _ _ (small 4 (omega arith)) (single 4 (omega arith)))
 
   pub none-ran : (c : Controller) → held (state s h) ≡ c
-      → record { controller = c; sums = pos 0 ∷ pos 0 ∷ pos 0 ∷ pos 0 ∷ pos 0 ∷ [] } ≡ ranOf 0 w (state s h)
-  unfolding afterTicks sumOf
-  none-ran c e = λ i. record { controller = sym e i; sums = pos 0 ∷ pos 0 ∷ pos 0 ∷ pos 0 ∷ pos 0 ∷ [] }
+      → record { controller = c; sums = pos 0 ∷ pos 0 ∷ pos 0 ∷ pos 0 ∷ pos 0 ∷ []; number = 0 } ≡ ranOf 0 w (state s h)
+  unfolding afterTicks sumOf numberIn
+  none-ran c e = λ i. record { controller = sym e i; sums = pos 0 ∷ pos 0 ∷ pos 0 ∷ pos 0 ∷ pos 0 ∷ []; number = 0 }
 
-  pub next-made : (r : Ran) (sums : List ℤ) → r ≡ tickedOf sums (tickStep (state s h) w)
+  pub next-made : (r : Ran) (sums : List ℤ) (before : ℕ) → r ≡ tickedOf sums before (tickStep (state s h) w)
       → held (state s (tick w ∷ h)) ≡ r .controller
-  unfolding run
-  next-made r sums e = sym (ap (λ (x : Ran). x .controller) e)
+  unfolding state
+  next-made r sums before e = sym (ap (λ (x : Ran). x .controller) e)
 
   -- One tick more.
-  pub next-ran : (n : ℕ) (sums : List ℤ) (next : Ran) → sums ≡ each (sumOf n w (state s h))
-      → next ≡ tickedOf sums (tickStep (state s (past n w h)) w) → next ≡ ranOf (n + 1) w (state s h)
-  unfolding afterTicks sumOf
-  next-ran n sums next p e =
-      rw add-one (e ∙ λ i. tickedOf (p i) (tickStep (past-state n i) w))
+  pub next-ran : (n : ℕ) (ran next : Ran) → ran ≡ ranOf n w (state s h)
+      → next ≡ tickedOf (ran .sums) (ran .number) (tickStep (state s (past n w h)) w) → next ≡ ranOf (n + 1) w (state s h)
+  unfolding afterTicks sumOf numberIn
+  next-ran n ran next p e =
+      rw add-one (e ∙ λ i. tickedOf (p i .sums) (p i .number) (tickStep (past-state n i) w))

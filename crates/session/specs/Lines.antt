@@ -15,12 +15,22 @@ unfoldable pub prints : Bench → List ℕ → List ℕ
 prints x [] = finished x .printed
 prints x (b ∷ bs) = taken x b .printed ++ prints (taken x b .bench) bs
 
+-- The bench after an input, or a part of it, taken byte by byte.
+unfoldable pub after : Bench → List ℕ → Bench
+after x [] = x
+after x (b ∷ bs) = after (taken x b .bench) bs
+
 -- Before a line.
 abbrev pub atLine : Machine → Bench
 atLine m = record { machine = m; place = starting }
 
+-- What a line does: the bench after it, and what it prints.
+pub record Done : Type 0 where
+  pub bench : Bench
+  pub printed : List ℕ
+
 -- Bytes go in one after another, and their replies print.
-unfoldable pub goesIn : Machine → List ℕ → Answer
+unfoldable pub goesIn : Machine → List ℕ → Done
 goesIn m [] = record { bench = atLine m; printed = [] }
 goesIn m (b ∷ bs) = record {
   bench = goesIn (byteStep m b buffer .machine) bs .bench;
@@ -31,9 +41,12 @@ abbrev pub beginsWithT : List ℕ → Bool
 beginsWithT [] = false
 beginsWithT (c ∷ cs) = eqb c 84
 
+abbrev pub doneBy : Answer → Done
+doneBy a = record { bench = a .bench; printed = a .printed }
+
 -- A line that begins with T runs ticks or prints `?`; other lines go in with 0D for their line feed.
-abbrev pub lineDone : Machine → List ℕ → Answer
-lineDone m cs = cond (beginsWithT cs) (asks m (askedOf cs)) (goesIn m (cs ++ (13 ∷ [])))
+abbrev pub lineDone : Machine → List ℕ → Done
+lineDone m cs = cond (beginsWithT cs) (doneBy (asks m (askedOf cs))) (goesIn m (cs ++ (13 ∷ [])))
 
 -- No character is a line feed.
 abbrev pub isLine : List ℕ → Bool

@@ -21,7 +21,7 @@ use Rattle.session.specs.declared.Session.{Session}
 use Rattle.session.specs.declared.Taken.{Taken}
 use Rattle.session.specs.declared.Sent.{Sent}
 use Rattle.session.specs.Asked.{askedOf}
-use Rattle.session.specs.Ticks.{afterTicks, sumOf}
+use Rattle.session.specs.Ticks.{afterTicks, sumOf, numberIn}
 use Rattle.session.specs.Text.{sumsText}
 use Rattle.session.specs.Kept.{keeping}
 
@@ -36,10 +36,12 @@ pub record Bench : Type 0 where
   pub machine : Machine
   pub place : Place
 
--- The bench after a byte, and what it prints.
+-- The bench after a byte, what it prints, and a number: the one that turned the byte away, or the line that it ended,
+-- told of silent lines too; after ticks the one of a waiting start that failed in them; else 0.
 pub record Answer : Type 0 where
   pub bench : Bench
   pub printed : List ℕ
+  pub number : ℕ
 
 -- At power-on with switch 0, before any line.
 abbrev pub fresh : Bench
@@ -59,21 +61,26 @@ buffer = replicate 120 0
 
 -- A byte goes in and its reply is printed.
 abbrev pub sent : steps.ByteAnswer → Place → Answer
-sent a p = record { bench = record { machine = a .machine; place = p }; printed = shown (a .reply) }
+sent a p = record {
+  bench = record { machine = a .machine; place = p };
+  printed = shown (a .reply);
+  number = a .number;
+}
 
 abbrev pub sends : Machine → ℕ → Place → Answer
 sends m b p = sent (byteStep m b buffer) p
 
 -- A character of a line that begins with T.
 abbrev pub keeps : Machine → List ℕ → Answer
-keeps m l = record { bench = record { machine = m; place = asking l }; printed = [] }
+keeps m l = record { bench = record { machine = m; place = asking l }; printed = []; number = 0 }
 
 -- A line that begins with T runs n ticks and prints the sums of the signed pulses of axes 0 to 4; or prints `?` (63).
 abbrev pub asks : Machine → Asked → Answer
-asks m Malformed = record { bench = record { machine = m; place = starting }; printed = 63 ∷ 10 ∷ [] }
+asks m Malformed = record { bench = record { machine = m; place = starting }; printed = 63 ∷ 10 ∷ []; number = 0 }
 asks m (Ticks n w) = record {
   bench = record { machine = afterTicks n w m; place = starting };
   printed = sumsText 5 (each (sumOf n w m));
+  number = numberIn n w m;
 }
 
 -- The end of a line: other lines go in with 0D for their line feed.
@@ -100,7 +107,7 @@ taken x b = cond (eqb b 10) (ended x) (character x b)
 
 -- The end of the input: the last line may lack its line feed.
 abbrev pub rests : Bench → Answer
-rests x = record { bench = x; printed = [] }
+rests x = record { bench = x; printed = []; number = 0 }
 
 abbrev pub finishedAt : Bench → Place → Answer
 finishedAt x starting = rests x
@@ -130,11 +137,14 @@ heldBench x = record {
 }
 
 abbrev pub heldAnswer : Answer → Taken
-heldAnswer a = record { session = heldBench (a .bench); length = length (a .printed) }
+heldAnswer a = record { session = heldBench (a .bench); length = length (a .printed); number = a .number }
 
--- A buffer under 120 bytes: byte not taken, nothing altered.
+-- 2. A buffer under 120 bytes: byte not taken, nothing altered.
+abbrev pub untaken : Bench → Answer
+untaken x = record { bench = x; printed = []; number = 2 }
+
 abbrev pub unless : List ℕ → Bench → Answer → Answer
-unless d x a = cond (ltb (length d) 120) (rests x) a
+unless d x a = cond (ltb (length d) 120) (untaken x) a
 
 -- What is answered, and what the buffer holds after the call: what is printed stands at its front, bytes after it keep
 -- their values.
@@ -162,20 +172,25 @@ Runs s P =
 
 abbrev pub Passed : Sent → List ℕ → List ℕ → steps.ByteAnswer → Type 0
 Passed r exit entry a =
-    (r ≡ record { controller = held (a .machine); length = length (shown (a .reply)) })
+    (r ≡ record { controller = held (a .machine); length = length (shown (a .reply)); number = a .number })
     × (exit ≡ over (shown (a .reply)) entry)
 
 abbrev pub stoodAt : Sent → declared.Place → Taken
 stoodAt s p = record {
   session = record { controller = s .controller; kept = keeping []; place = p };
   length = s .length;
+  number = s .number;
 }
 
 abbrev pub atStart : Controller → ℕ → Taken
-atStart c n = stoodAt (record { controller = c; length = n }) Start
+atStart c n = stoodAt (record { controller = c; length = n; number = 0 }) Start
+
+abbrev pub untakenOf : Session → Taken
+untakenOf s = record { session = s; length = 0; number = 2 }
 
 abbrev pub keptOf : Controller → List ℕ → Taken
 keptOf c l = record {
   session = record { controller = c; kept = keeping l; place = Asking };
   length = 0;
+  number = 0;
 }

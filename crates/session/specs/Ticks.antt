@@ -1,6 +1,9 @@
--- So many ticks with one input word: the machine after them, and the sums of the signed pulses.
+-- So many ticks with one input word: the machine after them, the sums of the signed pulses, and the number of a waiting
+-- start that failed.
 use Prim.Native.Nat.{ℕ, zero, suc, _≤_, _<_}
+use mathlib.Core.Bool.{cond}
 use mathlib.Core.List.{List}
+use lib.Dec.{eqb}
 use lib.IntN.{ℤ, pos, _+ℤ_, natAbs}
 use lib.ListN.{getD}
 use mir.Syntax.{w8, w32}
@@ -22,8 +25,20 @@ unfoldable pub sumOf : ℕ → ℕ → Machine → ℕ → ℤ
 sumOf zero w m k = pos 0
 sumOf (suc n) w m k = sumOf n w m k +ℤ tickStep (afterTicks n w m) w .pulse k
 
+-- The number of the last of these ticks that has one: that of a waiting start that failed. 0 where none has one.
+abbrev pub laterOf : ℕ → ℕ → ℕ
+laterOf before n = cond (eqb n 0) before n
+
+unfoldable pub numberIn : ℕ → ℕ → Machine → ℕ
+numberIn zero w m = 0
+numberIn (suc n) w m = laterOf (numberIn n w m) (tickStep (afterTicks n w m) w .number)
+
 abbrev pub ranOf : ℕ → ℕ → Machine → Ran
-ranOf n w m = record { controller = held (afterTicks n w m); sums = each (sumOf n w m) }
+ranOf n w m = record {
+  controller = held (afterTicks n w m);
+  sums = each (sumOf n w m);
+  number = numberIn n w m;
+}
 
 -- ---- One tick more, on what is held
 
@@ -33,8 +48,12 @@ sumAt sums pulses k = getD sums k (pos 0) +ℤ getD pulses k (pos 0)
 abbrev pub addedOf : List ℤ → List ℤ → List ℤ
 addedOf sums pulses = each (sumAt sums pulses)
 
-abbrev pub tickedOf : List ℤ → steps.TickAnswer → Ran
-tickedOf sums a = record { controller = held (a .machine); sums = addedOf sums (each (a .pulse)) }
+abbrev pub tickedOf : List ℤ → ℕ → steps.TickAnswer → Ran
+tickedOf sums before a = record {
+  controller = held (a .machine);
+  sums = addedOf sums (each (a .pulse));
+  number = laterOf before (a .number);
+}
 
 -- Neither a sum, nor a pulse, nor the two added leave their range.
 pub record Room (z p : ℤ) : Type 0 where

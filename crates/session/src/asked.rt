@@ -1,5 +1,4 @@
-// The form `T n hhhhhh` of the bench program's lines (paper 01, "Host end and program"). The public function is total.
-// Assumes nothing.
+// The form `T n hhhhhh` of the bench program's lines (paper 01, "Host end and program"). Assumes nothing.
 ghost use Prim.Native.Nat.{_≤_};
 ghost use mathlib.Core.Path.{_≡_};
 ghost use lib.ListN.{length};
@@ -16,7 +15,7 @@ const SPACE: u8 = 32;
 const MOST: u32 = 1000000;
 
 // What a line that begins with T asks.
-pub enum Asked {
+pub(crate) enum Asked {
     // It has not the form.
     Malformed,
     // So many ticks with this input word.
@@ -86,7 +85,7 @@ fn asked_by(count: u32, word: Number) -> Asked
 }
 
 // What a line asks, by its characters. A line that does not begin with T has not the form either.
-pub fn parse_tick(line: &[u8]) -> Asked
+pub(crate) fn parse_tick(line: &[u8]) -> Asked
     ensures { λ r. ⌜ r ≡ askedOf (now (line .entry)) ⌝ }
 {
     let n = line.len();

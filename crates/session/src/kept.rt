@@ -6,7 +6,8 @@ ghost use Rattle.session.specs.Kept.{keeping, Keeping, pushOf, keptAsked
 use crate::asked;
 use crate::asked::Asked;
 
-// The first 17 characters, zeros after them, and their count: one more than the form has.
+// The first 17 characters, zeros after them, and their count: one more than the form has. A public type, since callers
+// hold sessions within values of their own; no function of it is public.
 pub struct Kept {
     chars: [u8; 17],
     count: u8,
@@ -14,7 +15,7 @@ pub struct Kept {
 
 impl Kept {
     // No character.
-    pub fn new() -> Kept
+    pub(crate) fn new() -> Kept
         ensures { λ r. ⌜ r ≡ keeping [] ⌝ }
     {
         Kept {
@@ -24,7 +25,7 @@ impl Kept {
     }
 
     // One character more. From 17 on the count stands still.
-    pub fn push(self, b: u8) -> Kept
+    pub(crate) fn push(self, b: u8) -> Kept
         ensures { λ r. ⌜ r ≡ pushOf self b ⌝ }
         ensures { λ r. ⌜ Keeping self (λ l. r ≡ keeping (l ++ (b ∷ []))) ⌝ }
     {
@@ -42,7 +43,7 @@ impl Kept {
     }
 
     // What the line asks, however long it is.
-    pub fn asked(self) -> Asked
+    pub(crate) fn asked(self) -> Asked
         ensures { λ r. ⌜ r ≡ keptAsked self ⌝ }
         ensures { λ r. ⌜ Keeping self (λ l. r ≡ askedOf l) ⌝ }
     {

@@ -12,16 +12,16 @@ ghost use Rattle.controller.specs.Reach.{Reachable, Made};
 ghost use Rattle.session.specs.Kept.{Keeping};
 ghost use Rattle.session.specs.Lines.{Lines};
 ghost use Rattle.session.specs.Session.{shownByte, shown, buffer, fresh, asks, ended, character, taken, finished};
-ghost use Rattle.session.specs.Session.{Passed, stoodAt, atStart, keptOf, heldBench};
+ghost use Rattle.session.specs.Session.{Passed, stoodAt, atStart, keptOf, untakenOf, heldBench};
 ghost use Rattle.session.specs.Session.{Told, Answers, Running, Runs};
 use crate::asked::Asked;
 use crate::kept::Kept;
 use controller::Controller;
 
-pub mod asked;
-pub mod kept;
-pub mod text;
-pub mod ticks;
+mod asked;
+mod kept;
+mod text;
+mod ticks;
 
 // The line feed, which ends a line of the input, and byte 0D, which goes in for it.
 const FEED: u8 = 10;
@@ -36,7 +36,7 @@ const QUESTION: u8 = 63;
 // The reply buffer that a controller asks for.
 const ROOM: usize = 120;
 
-// Where the input stands.
+// Where the input stands. A public type, since callers hold sessions within values of their own.
 pub enum Place {
     // Before the first character of a line.
     Start,
@@ -53,16 +53,20 @@ pub struct Session {
     place: Place,
 }
 
-// The next session, and the length of what is to be printed, which stands at the front of the lent buffer.
+// The next session; the length of what is to be printed, which stands at the front of the lent buffer; and a number: 2
+// for a buffer under 120 bytes, the number that turned away the line which ended here, or that of a waiting start which
+// failed in the ticks of a line that begins with T; else 0.
 pub struct Taken {
     pub session: Session,
     pub length: usize,
+    pub number: u8,
 }
 
-// The controller after a byte that went in, and the length of what is to be printed.
+// The controller after a byte that went in or after ticks, the length of what is to be printed, and the number told.
 struct Sent {
     controller: Controller,
     length: usize,
+    number: u8,
 }
 
 // A byte of a reply as it is printed.
@@ -97,7 +101,11 @@ fn send(c: Controller, buf: &mut [u8], b: u8) -> Sent
     let length = a.length;
     show(buf, length);
     let controller = a.controller;
-    Sent { controller, length }
+    Sent {
+        controller,
+        length,
+        number: a.number,
+    }
 }
 
 // A session with nothing kept.
@@ -114,6 +122,7 @@ fn stand(sent: Sent, place: Place) -> Taken
     Taken {
         session,
         length: sent.length,
+        number: sent.number,
     }
 }
 
@@ -127,6 +136,7 @@ fn question(c: Controller, buf: &mut [u8]) -> Taken
     let sent = Sent {
         controller: c,
         length: 2,
+        number: 0,
     };
     stand(sent, Place::Start)
 }
@@ -144,7 +154,11 @@ fn answer(c: Controller, buf: &mut [u8], asked: Asked) -> Taken
             let sums = ran.sums;
             let length = text::write_sums(buf, sums);
             let controller = ran.controller;
-            let sent = Sent { controller, length };
+            let sent = Sent {
+                controller,
+                length,
+                number: ran.number,
+            };
             stand(sent, Place::Start)
         }
     }
@@ -180,7 +194,11 @@ impl Session {
             kept,
             place: Place::Asking,
         };
-        Taken { session, length: 0 }
+        Taken {
+            session,
+            length: 0,
+            number: 0,
+        }
     }
 
     // The end of a line.
@@ -233,17 +251,25 @@ impl Session {
         }
     }
 
-    // A byte of the input, with a buffer for what it prints. With a buffer under 120 bytes it is not taken.
+    // A buffer under 120 bytes: nothing is altered or printed.
+    fn untaken(self) -> Taken
+        ensures { λ r. ⌜ r ≡ untakenOf self ⌝ }
+    {
+        Taken {
+            session: self,
+            length: 0,
+            number: 2,
+        }
+    }
+
+    // A byte of the input, with a buffer for what it prints. With a buffer under 120 bytes it is not taken: number 2.
     pub fn take(self, buf: &mut [u8], b: u8) -> Taken
         requires { ⌜ Running self ⌝ }
         ensures { λ r. ⌜ Runs self (λ x. Answers r (now (buf .exit)) (now (buf .entry)) x (taken x b)) ⌝ }
         ensures { λ r. ⌜ Running (r .session) ⌝ }
     {
         if buf.len() < ROOM {
-            return Taken {
-                session: self,
-                length: 0,
-            };
+            return self.untaken();
         }
         if b == FEED {
             return self.end_line(buf);
@@ -258,16 +284,14 @@ impl Session {
         ensures { λ r. ⌜ Running (r .session) ⌝ }
     {
         if buf.len() < ROOM {
-            return Taken {
-                session: self,
-                length: 0,
-            };
+            return self.untaken();
         }
         let place = self.place;
         match place {
             Place::Start => Taken {
                 session: self,
                 length: 0,
+                number: 0,
             },
             Place::Sending => self.end_line(buf),
             Place::Asking => self.end_line(buf),

@@ -1,4 +1,4 @@
-// Sums as text (paper 01, "Host end and program"). The public function is total. Assumes nothing.
+// Sums as text (paper 01, "Host end and program"). Assumes nothing.
 ghost use Prim.Native.Nat.{_+_, _≤_};
 ghost use mathlib.Core.List.{[], _∷_, _++_};
 ghost use mathlib.Core.Path.{_≡_};
@@ -75,7 +75,7 @@ fn write_item(buf: &mut [u8], at: usize, minus: bool, n: u32, k: usize) -> usize
 }
 
 // The line of five sums at the front, and its length: nothing and 0 in a buffer under 60 bytes.
-pub fn write_sums(buf: &mut [u8], sums: [i32; 5]) -> usize
+pub(crate) fn write_sums(buf: &mut [u8], sums: [i32; 5]) -> usize
     ensures { λ r. ⌜ r ≡ sumsLength sums (now (buf .entry)) ⌝ }
     ensures { λ r. ⌜ now (buf .exit) ≡ sumsOver sums (now (buf .entry)) ⌝ }
 {

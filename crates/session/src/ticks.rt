@@ -1,17 +1,20 @@
-// So many ticks with one input word, and the sums of their signed pulses. Assumes nothing.
+// So many ticks with one input word, the sums of their signed pulses, and the number of a waiting start that failed.
+// Assumes nothing.
 ghost use mathlib.Core.Path.{_≡_};
 ghost use lib.IntN.{_+ℤ_};
 ghost use Rattle.machine.specs.Steps.{tickStep};
 ghost use mir.Syntax.{w32};
 ghost use mir.Val.{SFits};
 ghost use Rattle.controller.specs.Reach.{Reachable, Made};
-ghost use Rattle.session.specs.Ticks.{ranOf, Rooms, Small, addedOf, tickedOf};
+ghost use Rattle.session.specs.Ticks.{ranOf, Rooms, Small, addedOf, laterOf, tickedOf};
 use controller::Controller;
 
-// The controller after some ticks, and the sums of the signed pulses of axes 0 to 4 in them.
-pub struct Ran {
-    pub controller: Controller,
-    pub sums: [i32; 5],
+// The controller after some ticks, the sums of the signed pulses of axes 0 to 4 in them, and the number of the last of
+// them that has one, else 0.
+pub(crate) struct Ran {
+    pub(crate) controller: Controller,
+    pub(crate) sums: [i32; 5],
+    pub(crate) number: u8,
 }
 
 // The sum with one pulse more.
@@ -36,32 +39,45 @@ fn added(sums: [i32; 5], pulses: [i8; 5]) -> [i32; 5]
     ]
 }
 
+// The number after a tick more, which has the number n.
+fn later(before: u8, n: u8) -> u8
+    ensures { λ r. ⌜ r ≡ laterOf before n ⌝ }
+{
+    if n == 0 {
+        return before;
+    }
+    n
+}
+
 // One tick more.
 fn ticked(ran: Ran, word: u32) -> Ran
     requires { ⌜ Reachable (ran .controller) ⌝ }
     requires { ⌜ Small (ran .sums) ⌝ }
-    ensures { λ r. ⌜ Made (ran .controller) (λ m. r ≡ tickedOf (ran .sums) (tickStep m word)) ⌝ }
+    ensures { λ r. ⌜ Made (ran .controller) (λ m. r ≡ tickedOf (ran .sums) (ran .number) (tickStep m word)) ⌝ }
 {
     let was = ran.controller;
     let sums = ran.sums;
     let a = was.tick(word);
     let pulses = a.pulses;
     let more = added(sums, pulses);
+    let number = later(ran.number, a.number);
     let controller = a.controller;
     Ran {
         controller,
         sums: more,
+        number,
     }
 }
 
 // `count` ticks, whatever the controller does in them: no sum leaves the range, since positions do not.
-pub fn run_ticks(c: Controller, count: u32, word: u32) -> Ran
+pub(crate) fn run_ticks(c: Controller, count: u32, word: u32) -> Ran
     requires { ⌜ Reachable c ⌝ }
     ensures { λ r. ⌜ Made c (λ m. r ≡ ranOf count word m) ⌝ }
 {
     let mut ran = Ran {
         controller: c,
         sums: [0; 5],
+        number: 0,
     };
     let mut i = 0;
     while i < count {

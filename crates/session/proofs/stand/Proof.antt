@@ -12,6 +12,7 @@ returns c =
     λ i. record {
       session = record { controller = l .args .sent .controller; kept = c .new .ensures i; place = l .args .place };
       length = l .args .sent .length;
+      number = l .args .sent .number;
     }
 
 pub stand-spec : {M : Type 1} → statement M

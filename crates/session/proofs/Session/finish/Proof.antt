@@ -1,5 +1,6 @@
 -- The end of the input, and that the session is again one that calls made. Assumes nothing.
 use borrow.Author.Needs.{needs}
+use native.Mathlib.Omega.{arith}
 use Rattle.machine.specs.Calls.{state}
 use Rattle.session.proofs.SessionLaws.{
   finished-told,
@@ -13,12 +14,15 @@ use Rattle.session.proofs.SessionLaws.{
 use Rattle.session.proofs.Session.finish.Statement.{statement}
 use Rattle.session.proofs.Session.finish.Tie as tie
 
+untaken-requires : tie.Need-untaken-requires
+untaken-requires c κs = search needs
+
 returns : tie.Need-returns
 returns c =
-    let l = c .before .before in
-    finished-told (l .args .self) _ (l .args .buf .now) (l .args .buf .now) (l .pre)
-    (λ w h p e. short-told (state w h) p (l .args .self) e _ (l .args .buf .now) (l .args .buf .now) _ (c .if1 .taken)
-    (rests-told (state w h) p (l .args .self) e (l .args .buf .now)))
+    let l = c .before .before .before in
+    finished-told (l .args .self) (c .untaken .result) (l .args .buf .now) (l .args .buf .now) (l .pre)
+    (λ w h p e. short-told (state w h) p (l .args .self) e (c .untaken .result) (l .args .buf .now) _ (omega arith)
+    (c .untaken .ensures))
 
 enum-told : tie.Need-enum-told
 enum-told c = search needs
@@ -40,7 +44,7 @@ returns-2 c =
     let l = c .before .before .before .before in
     finished-told (l .args .self) _ (l .args .buf .now) (l .args .buf .now) (l .pre)
     (λ w h p e. long-told (state w h) p (l .args .self) e _ (l .args .buf .now) (l .args .buf .now) _ _
-    (c .before .before .if1 .left) (start-finished (state w h) p (l .args .self) e (c .enum-told .given .1))
+    (omega arith) (start-finished (state w h) p (l .args .self) e (c .enum-told .given .1))
     (rests-told (state w h) p (l .args .self) e (l .args .buf .now)))
 
 same-length : tie.Need-same-length
@@ -52,7 +56,7 @@ returns-3 c =
     let a = c .before .before .end-line in
     finished-told (l .args .self) (a .result) (a .last .1 .0) (l .args .buf .now) (l .pre)
     (λ w h p e. long-told (state w h) p (l .args .self) e (a .result) (a .last .1 .0) (l .args .buf .now) _ _
-    (c .before .before .before .before .before .before .if1 .left)
+    (omega arith)
     (sending-finished (state w h) p (l .args .self) e (c .before .before .before .before .enum-told2 .given .1))
     (a .ensures w h p e))
 
@@ -65,7 +69,7 @@ returns-4 c =
     let a = c .before .before .end-line2 in
     finished-told (l .args .self) (a .result) (a .last .1 .0) (l .args .buf .now) (l .pre)
     (λ w h p e. long-told (state w h) p (l .args .self) e (a .result) (a .last .1 .0) (l .args .buf .now) _ _
-    (c .before .before .before .before .before .before .if1 .left)
+    (omega arith)
     (asking-finished (state w h) p (l .args .self) e (c .before .before .before .before .enum-told3 .given .1))
     (a .ensures w h p e))
 
@@ -73,6 +77,7 @@ pub finish-spec : {M : Type 1} → statement M
 finish-spec =
     tie.close
     (tie.spec
+    untaken-requires
     returns
     enum-told
     enum-told-2

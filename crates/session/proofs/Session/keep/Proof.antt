@@ -13,6 +13,7 @@ returns c =
     λ l e. λ i. record {
       session = record { controller = s .args .self .controller; kept = c .push .ensures .1 l e i; place = Asking };
       length = 0;
+      number = 0;
     }
 
 pub keep-spec : {M : Type 1} → statement M

@@ -1,4 +1,4 @@
--- So many ticks. The invariant: the controller and the sums are those of the ticks so far, on every machine so held.
+-- So many ticks. The invariant: controller, sums and number are those of the ticks so far, on every machine so held.
 -- The measure is the ticks left. Assumes nothing.
 use Prim.Native.Nat.{_-_, _≤_}
 use native.Mathlib.Omega.{arith}
@@ -48,12 +48,11 @@ loop-again c =
         switch = r .switch;
         history = tick w ∷ r .history;
         made =
-            next-made (r .switch) w (r .history) (c .ticked .result) (l .ran .sums)
+            next-made (r .switch) w (r .history) (c .ticked .result) (l .ran .sums) (l .ran .number)
             (c .ticked .ensures (r .switch) (r .history) (r .made));
       },
       l .inv .2,
-      λ s h e. next-ran s w h (l .i) (l .ran .sums) (c .ticked .result)
-          (ap (λ x. x .sums) (l .inv .3 s h e))
+      λ s h e. next-ran s w h (l .i) (l .ran) (c .ticked .result) (l .inv .3 s h e)
           (c .ticked .ensures s (past (l .i) w h)
           (ap held (past-state s w h (l .i)) ∙ sym (ap (λ x. x .controller) (l .inv .3 s h e)))),
     )

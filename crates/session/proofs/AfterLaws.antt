@@ -1,0 +1,50 @@
+-- The bench after a list of bytes: one byte more, and that calls made it. Assumes nothing.
+use Prim.Native.Nat.{ℕ, _+_, _<_}
+use native.Mathlib.Numerals.{add-one}
+use mathlib.Core.List.{List, [], _∷_, _++_}
+use mathlib.Core.Path.{_≡_, refl, sym, ap, subst, _∙_}
+use lib.ListN.{length, getD, take}
+use lib.Seq.{take-suc, take-length}
+use Rattle.session.specs.declared.Session.{Session}
+use Rattle.session.specs.Session.{Bench, taken, heldBench, Runs}
+use Rattle.session.specs.Lines.{after}
+use Rattle.session.proofs.SessionLaws.{Lives, runs-at, rests-lives, taken-lives}
+
+-- The last byte of a list is taken after those before it.
+after-snoc : (l : List ℕ) (x : Bench) (b : ℕ) → after x (l ++ (b ∷ [])) ≡ taken (after x l) b .bench
+unfolding after
+after-snoc [] x b = refl
+after-snoc (c ∷ l) x b = after-snoc l (taken x c .bench) b
+
+after-next : (x : Bench) (bs : List ℕ) (i : ℕ) → i < length bs
+    → after x (take (i + 1) bs) ≡ taken (after x (take i bs)) (getD bs i 0) .bench
+after-next x bs i h = rw (add-one i, take-suc bs i 0 h) (after-snoc (take i bs) x (getD bs i 0))
+
+taken-on : (x : Bench) (b : ℕ) → Lives x → Lives (taken x b .bench)
+taken-on x b l = subst (λ (y : Bench). Lives (taken y b .bench)) (l .is) (taken-lives (l .switch) (l .history) b (l .place))
+
+after-lives : (bs : List ℕ) (x : Bench) → Lives x → Lives (after x bs)
+unfolding after
+after-lives [] x l = l
+after-lives (b ∷ bs) x l = after-lives bs (taken x b .bench) (taken-on x b l)
+
+-- ---- the bytes of a slice, one after another
+
+pub after-none : (s : Session) (bs : List ℕ) → Runs s (λ x. s ≡ heldBench (after x (take 0 bs)))
+unfolding after
+after-none s bs w h p e = sym e
+
+-- One byte more, on every bench that the first session holds.
+pub after-one : (s t r : Session) (bs : List ℕ) (i : ℕ) → i < length bs
+    → Runs s (λ x. t ≡ heldBench (after x (take i bs)))
+    → Runs t (λ x. r ≡ heldBench (taken x (getD bs i 0) .bench))
+    → Runs s (λ x. r ≡ heldBench (after x (take (i + 1) bs)))
+after-one s t r bs i k past next w h p e =
+    runs-at t (λ x. r ≡ heldBench (taken x (getD bs i 0) .bench)) next _
+    (after-lives (take i bs) _ (rests-lives w h p)) (sym (past w h p e))
+    ∙ ap heldBench (sym (after-next _ bs i k))
+
+pub after-all : (s r : Session) (bs : List ℕ) (i : ℕ) → i ≡ length bs
+    → Runs s (λ x. r ≡ heldBench (after x (take i bs))) → Runs s (λ x. r ≡ heldBench (after x bs))
+after-all s r bs i n past =
+    subst (λ (l : List ℕ). Runs s (λ x. r ≡ heldBench (after x l))) (ap (λ (k : ℕ). take k bs) n ∙ take-length bs) past
