@@ -8,7 +8,7 @@ use reply::Position;
 use reply::Travel;
 
 // A digest with three numbers more. The sum of the products stays below 2 to the 64.
-pub fn mix(h: u32, x: u32, y: u32, z: u32) -> u32
+pub(crate) fn mix(h: u32, x: u32, y: u32, z: u32) -> u32
     ensures { λ r. ⌜ r ≡ mixed h x y z ⌝ }
 {
     let sum = h as u64 * 2147483629
@@ -32,7 +32,7 @@ fn code(p: i8) -> u32
 }
 
 // The five pulses and the number of a tick as one number.
-pub fn tick_code(pulses: [i8; 5], number: u8) -> u32
+pub(crate) fn tick_code(pulses: [i8; 5], number: u8) -> u32
     ensures { λ r. ⌜ r ≡ tickCode (atAxis pulses) number ⌝ }
 {
     let low = code(pulses[0]) + code(pulses[1]) * 3 + code(pulses[2]) * 9;
@@ -40,7 +40,7 @@ pub fn tick_code(pulses: [i8; 5], number: u8) -> u32
 }
 
 // A digest with each byte of a buffer more.
-pub fn bytes(h: u32, buf: &[u8]) -> u32
+pub(crate) fn bytes(h: u32, buf: &[u8]) -> u32
     ensures { λ r. ⌜ r ≡ mixedBytes h (now (buf .entry)) ⌝ }
 {
     let mut digest = h;
@@ -53,7 +53,7 @@ pub fn bytes(h: u32, buf: &[u8]) -> u32
 }
 
 // A digest with the travel and the position of each axis more.
-pub fn axes(h: u32, travels: [Travel; 5], positions: [Position; 5]) -> u32
+pub(crate) fn axes(h: u32, travels: [Travel; 5], positions: [Position; 5]) -> u32
     ensures { λ r. ⌜ r ≡ mixedAxes (travelAt travels) (placeAt positions) h 5 ⌝ }
 {
     let mut digest = h;

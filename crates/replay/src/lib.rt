@@ -8,8 +8,8 @@ ghost use Rattle.controller.specs.Reach.{Reachable, Made};
 ghost use Rattle.replay.specs.Replay.{seen, heldSeen, begun, called, wordAt, replayed};
 use crate::play::Played;
 
-pub mod digest;
-pub mod play;
+mod digest;
+mod play;
 
 // The bytes of a call: its kind, its value and its count.
 const CALL: usize = 9;

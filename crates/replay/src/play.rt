@@ -8,9 +8,9 @@ use crate::digest;
 use controller::Controller;
 
 // The controller after some calls, and the digest of their answers.
-pub struct Played {
-    pub controller: Controller,
-    pub digest: u32,
+pub(crate) struct Played {
+    pub(crate) controller: Controller,
+    pub(crate) digest: u32,
 }
 
 // One tick.
