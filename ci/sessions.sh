@@ -1,5 +1,6 @@
 #!/usr/bin/env bash
-# Every stored session on the bench program, at once and in pieces of 7 bytes, against its stored output.
+# Every stored session on the bench program, at once and in pieces of 7 bytes, against its stored output; then line by
+# line (ci/interactive.py).
 # It runs target/bin/bench, which `rt check bench` proves and builds.
 set -eu
 cd "$(dirname "$0")/.."
@@ -18,3 +19,4 @@ for input in docs/*.in crates/*/stdin; do
     fi
 done
 echo "sessions: the bench program prints every stored output"
+python3 ci/interactive.py

@@ -1,0 +1,139 @@
+#!/usr/bin/env python3
+"""One line, its whole reply, then the next line: ci/interactive.py [program ...], by default target/bin/bench
+
+Lines and replies are those of stored sessions (ci/outputs.sh holds them to the reference). A program that waits for more
+input before it answers, or ends before its input does, fails here. Every seventh line comes in two pieces. The last line
+of a session comes without its line feed, and is answered once the input is closed. Then what docs/PROTOCOL.md says of an
+output that is closed and of an input that is not ready. Exit 1, naming what was to come and what came.
+"""
+import os
+import select
+import signal
+import subprocess
+import sys
+import time
+from pathlib import Path
+from subprocess import PIPE
+
+SESSIONS = ["bench_protocol", "bench_refusals", "bench_readings", "bench_stops", "bench_dwell"]
+LIMIT = 20  # seconds for a reply
+PAUSE = 0.01  # seconds in which nothing may be printed
+STOPPED = b"bench: stopped, input or output failed\n"
+
+
+class Wrong(Exception):
+    pass
+
+
+def exchanges(folder):
+    """Each line of a stored session with its reply: none to a silent line, twelve blocks to q 8, else one line."""
+    replies = (folder / "stdout").read_bytes().splitlines(keepends=True)
+    for line in (folder / "stdin").read_bytes().splitlines(keepends=True):
+        silent = line[1:2] == b"4" and line[:1] != b"T"
+        count = 0 if silent else 12 if line.startswith(b"q08") and replies[0][:1] == b"S" else 1
+        yield line, b"".join(replies[:count])
+        del replies[:count]
+    if replies:
+        raise Wrong(f"{folder}: {len(replies)} stored replies belong to no line")
+
+
+class Bench:
+    """The program with a pipe at each end."""
+
+    def __init__(self, program, **kept):
+        self.process = subprocess.Popen([program], bufsize=0, **{"stdin": PIPE, "stdout": PIPE, **kept})
+
+    def give(self, data):
+        try:
+            self.process.stdin.write(data)
+        except BrokenPipeError:
+            raise Wrong(f"{data!r}: the program has ended") from None
+
+    def quiet(self, line):
+        if select.select([self.process.stdout], [], [], PAUSE)[0]:
+            raise Wrong(f"{line!r}: nothing was to come, and {self.process.stdout.read(4096)!r} came")
+
+    def expect(self, line, reply):
+        came, end = b"", time.monotonic() + LIMIT
+        while len(came) < len(reply):
+            if not select.select([self.process.stdout], [], [], max(0, end - time.monotonic()))[0]:
+                raise Wrong(f"{line!r}: {reply!r} was to come, and {came!r} came in {LIMIT} s")
+            piece = self.process.stdout.read(len(reply) - len(came))
+            if not piece:
+                raise Wrong(f"{line!r}: {reply!r} was to come, and {came!r} came before the program ended")
+            came += piece
+        if came != reply:
+            raise Wrong(f"{line!r}: {reply!r} was to come, and {came!r} came")
+
+    def over(self, case, status, said=None):
+        """The program ends so, prints nothing more, and says this on standard error."""
+        try:
+            ended = self.process.wait(LIMIT)
+        except subprocess.TimeoutExpired:
+            self.process.kill()
+            raise Wrong(f"{case}: the program does not end") from None
+        left = self.process.stdout.read() if self.process.stdout else b""
+        told = self.process.stderr.read() if self.process.stderr else None
+        if (left, ended, told) != (b"", status, said):
+            raise Wrong(f"{case}: the program ended with status {ended}, printed {left!r} last and said {told!r}")
+
+
+def sessions(program):
+    """Every session line by line. Returns the number of lines."""
+    lines = 0
+    for name in SESSIONS:
+        bench = Bench(program)
+        *told, (last, end) = exchanges(Path("crates") / name)
+        for line, reply in told:
+            lines += 1
+            if lines % 7 == 0 and len(line) > 1:
+                bench.give(line[:-2])
+                bench.quiet(line[:-2])
+                bench.give(line[-2:])
+            else:
+                bench.give(line)
+            bench.expect(line, reply)
+            if not reply:
+                bench.quiet(line)
+        bench.give(last.rstrip(b"\n"))
+        bench.quiet(last)
+        bench.process.stdin.close()
+        bench.expect(last, end)
+        bench.over(name, 0)
+    return lines
+
+
+def stops(program):
+    """Three ways to stop before the end of the input, which stays open."""
+    for case, ignored in [("output closed", False), ("output closed, SIGPIPE ignored", True)]:
+        bench = Bench(program, stderr=PIPE, restore_signals=not ignored)
+        bench.process.stdout.close()
+        bench.process.stdout = None
+        bench.give(b"Q06\n")
+        bench.over(case, *((0, STOPPED) if ignored else (-signal.SIGPIPE, b"")))
+    end, other = os.pipe()
+    os.set_blocking(end, False)
+    os.write(other, b"Q06\nQ0")
+    bench = Bench(program, stdin=end, stderr=PIPE)
+    bench.expect(b"Q06\n", b"S0600000\n")
+    bench.over("input not ready", 0, STOPPED)
+    os.close(end)
+    os.close(other)
+
+
+def main():
+    programs = [os.path.abspath(program) for program in sys.argv[1:]]
+    os.chdir(Path(__file__).resolve().parent.parent)
+    for program in programs or [os.path.abspath("target/bin/bench")]:
+        try:
+            lines = sessions(program)
+            stops(program)
+        except Wrong as wrong:
+            print(f"interactive: {os.path.relpath(program)}: {wrong}")
+            return 1
+        print(f"interactive: {os.path.relpath(program)}: {lines} lines, each answered before the next")
+    return 0
+
+
+if __name__ == "__main__":
+    sys.exit(main())
