@@ -12,6 +12,7 @@ import signal
 import subprocess
 import sys
 import time
+from io import BytesIO
 from pathlib import Path
 from subprocess import PIPE
 
@@ -27,8 +28,8 @@ class Wrong(Exception):
 
 def exchanges(folder):
     """Each line of a stored session with its reply: none to a silent line, twelve blocks to q 8, else one line."""
-    replies = (folder / "stdout").read_bytes().splitlines(keepends=True)
-    for line in (folder / "stdin").read_bytes().splitlines(keepends=True):
+    replies = BytesIO((folder / "stdout").read_bytes()).readlines()
+    for line in BytesIO((folder / "stdin").read_bytes()):
         silent = line[1:2] == b"4" and line[:1] != b"T"
         count = 0 if silent else 12 if line.startswith(b"q08") and replies[0][:1] == b"S" else 1
         yield line, b"".join(replies[:count])
