@@ -11,7 +11,7 @@ use Rattle.line.specs.declared.Command.the-variants as C
 use Rattle.line.specs.declared.Judged.the-variants.{Accepted}
 use Rattle.line.specs.Line.{judgeForm, judgeValue, inputBits}
 use Rattle.line.specs.Fits.{CommandFits}
-use Rattle.host.specs.Writer.{coded, letterOf, digitsOf, isQuery}
+use Rattle.host.specs.Writer.{letterOf, digitsOf, isQuery}
 
 -- A command with its letter and six digits, judged.
 abbrev Taken : Command → Type 0
@@ -20,71 +20,71 @@ Taken c = judgeValue (letterOf c) 6 (digitsOf c) ≡ Accepted c (digitsOf c)
 accept-distance : (k : ℕ) (minus : Bool) (d : ℕ) → k < 5 → d < 524288 → Taken (C.Distance k minus d)
 unfolding judgeForm
 accept-distance k true d h j =
-    let e : coded k (524288 + d) / 1048576 ≡ k = omega arith in
-    let f : coded k (524288 + d) % 1048576 ≡ 524288 + d = omega arith in
+    let e : digitsOf (C.Distance k true d) / 1048576 ≡ k = omega arith in
+    let f : digitsOf (C.Distance k true d) % 1048576 ≡ 524288 + d = omega arith in
     let g : (524288 + d) % 524288 ≡ d = omega arith in
     let l : 524288 ≤ 524288 + d = omega arith in
     rw (e, lt-ltb k 5 h, f, g, le-leb 524288 (524288 + d) l)
 accept-distance k false d h j =
-    let e : coded k (0 + d) / 1048576 ≡ k = omega arith in
-    let f : coded k (0 + d) % 1048576 ≡ d = omega arith in
+    let e : digitsOf (C.Distance k false d) / 1048576 ≡ k = omega arith in
+    let f : digitsOf (C.Distance k false d) % 1048576 ≡ d = omega arith in
     let g : d % 524288 ≡ d = omega arith in
     rw (e, lt-ltb k 5 h, f, g, lt-leb 524288 d j)
 
 accept-speed : (v : ℕ) → 1 ≤ v → v ≤ 1000000 → Taken (C.Speed v)
 unfolding judgeForm
 accept-speed v h j =
-    let e : coded 8 v / 1048576 ≡ 8 = omega arith in
-    let f : coded 8 v % 1048576 ≡ v = omega arith in
+    let e : digitsOf (C.Speed v) / 1048576 ≡ 8 = omega arith in
+    let f : digitsOf (C.Speed v) % 1048576 ≡ v = omega arith in
     rw (e, f, le-leb 1 v h, le-leb v 1000000 j)
 
 accept-slope : (v : ℕ) → 1 ≤ v → v ≤ 4095 → Taken (C.Slope v)
 unfolding judgeForm
 accept-slope v h j =
-    let e : coded 9 v / 1048576 ≡ 9 = omega arith in
-    let f : coded 9 v % 1048576 ≡ v = omega arith in
+    let e : digitsOf (C.Slope v) / 1048576 ≡ 9 = omega arith in
+    let f : digitsOf (C.Slope v) % 1048576 ≡ v = omega arith in
     rw (e, f, le-leb 1 v h, le-leb v 4095 j)
 
 accept-dwell : (v : ℕ) → v ≤ 16383 → Taken (C.Dwell v)
 unfolding judgeForm
 accept-dwell v h =
-    let e : coded 10 v / 1048576 ≡ 10 = omega arith in
-    let f : coded 10 v % 1048576 ≡ v = omega arith in
+    let e : digitsOf (C.Dwell v) / 1048576 ≡ 10 = omega arith in
+    let f : digitsOf (C.Dwell v) % 1048576 ≡ v = omega arith in
     rw (e, f, le-leb v 16383 h)
 
 accept-watch : (v : ℕ) → v ≤ 3 → Taken (C.Watch v)
 unfolding judgeForm
 accept-watch v h =
-    let e : coded 11 (v * 65536) / 1048576 ≡ 11 = omega arith in
-    let f : coded 11 (v * 65536) % 1048576 / 65536 ≡ v = omega arith in
+    let e : digitsOf (C.Watch v) / 1048576 ≡ 11 = omega arith in
+    let f : digitsOf (C.Watch v) % 1048576 / 65536 ≡ v = omega arith in
     rw (e, f, le-leb v 3 h)
 
 accept-polarity : (v : ℕ) → v ≤ 4095 → Taken (C.Polarity v)
 unfolding judgeForm
 accept-polarity v h =
-    let e : coded 12 v / 1048576 ≡ 12 = omega arith in
-    let f : coded 12 v % 1048576 ≡ v = omega arith in
+    let e : digitsOf (C.Polarity v) / 1048576 ≡ 12 = omega arith in
+    let f : digitsOf (C.Polarity v) % 1048576 ≡ v = omega arith in
     rw (e, f, le-leb v 4095 h)
 
 accept-travel : (k : ℕ) → k < 5 → Taken (C.Travel k)
 unfolding judgeForm
 accept-travel k h =
-    let e : coded k 0 / 1048576 ≡ k = omega arith in
+    let e : digitsOf (C.Travel k) / 1048576 ≡ k = omega arith in
     rw (e, lt-ltb k 5 h)
 
 accept-start : (k : ℕ) (waits : Bool) → k < 5 → Taken (C.Start k waits)
 unfolding judgeForm
 accept-start k true h =
-    let e : coded 8 ((8 + k) * 65536) / 1048576 ≡ 8 = omega arith in
-    let f : coded 8 ((8 + k) * 65536) % 1048576 / 65536 ≡ 8 + k = omega arith in
+    let e : digitsOf (C.Start k true) / 1048576 ≡ 8 = omega arith in
+    let f : digitsOf (C.Start k true) % 1048576 / 65536 ≡ 8 + k = omega arith in
     let g : (8 + k) % 8 ≡ k = omega arith in
     let a : 4 < 8 + k = omega arith in
     let b : 8 ≤ 8 + k = omega arith in
     let d : 8 + k ≤ 12 = omega arith in
     rw (e, f, g, lt-leb (8 + k) 4 a, le-leb 8 (8 + k) b, le-leb (8 + k) 12 d)
 accept-start k false h =
-    let e : coded 8 ((0 + k) * 65536) / 1048576 ≡ 8 = omega arith in
-    let f : coded 8 ((0 + k) * 65536) % 1048576 / 65536 ≡ k = omega arith in
+    let e : digitsOf (C.Start k false) / 1048576 ≡ 8 = omega arith in
+    let f : digitsOf (C.Start k false) % 1048576 / 65536 ≡ k = omega arith in
     let g : k % 8 ≡ k = omega arith in
     let a : k ≤ 4 = omega arith in
     let b : k < 8 = omega arith in
@@ -93,21 +93,21 @@ accept-start k false h =
 accept-low : (v : ℕ) → v < 16384 → inputBits v ≡ true → Taken (C.LowOn v)
 unfolding judgeForm
 accept-low v h j =
-    let e : coded 13 v / 1048576 ≡ 13 = omega arith in
-    let f : coded 13 v % 1048576 ≡ v = omega arith in
+    let e : digitsOf (C.LowOn v) / 1048576 ≡ 13 = omega arith in
+    let f : digitsOf (C.LowOn v) % 1048576 ≡ v = omega arith in
     rw (e, f, j)
 
 accept-high : (v : ℕ) → v < 16384 → inputBits v ≡ true → Taken (C.HighOn v)
 unfolding judgeForm
 accept-high v h j =
-    let e : coded 14 v / 1048576 ≡ 14 = omega arith in
-    let f : coded 14 v % 1048576 ≡ v = omega arith in
+    let e : digitsOf (C.HighOn v) / 1048576 ≡ 14 = omega arith in
+    let f : digitsOf (C.HighOn v) % 1048576 ≡ v = omega arith in
     rw (e, f, j)
 
 accept-position : (k : ℕ) → k < 5 → Taken (C.Position k)
 unfolding judgeForm
 accept-position k h =
-    let e : coded k 0 / 1048576 ≡ k = omega arith in
+    let e : digitsOf (C.Position k) / 1048576 ≡ k = omega arith in
     rw (e, lt-ltb k 5 h)
 
 accept-outputs : (v : ℕ) → Taken (C.Outputs v)

@@ -9,9 +9,8 @@ use Rattle.block.specs.Block.{blockOf, over}
 use Rattle.line.specs.declared.Command.the-variants as C
 use Rattle.line.proofs.Examples.{chars}
 use Rattle.host.specs.declared.Request.{Request}
-use Rattle.host.specs.declared.Written.the-variants.{Length, Refused}
 use Rattle.host.specs.Master.{masterOf}
-use Rattle.host.specs.Writer.{lineOf, writtenOf, bufferOf}
+use Rattle.host.specs.Writer.{lineOf, line, refused, writtenOf, bufferOf}
 
 abbrev query : Request
 query = record { silent = false; command = C.Inputs; ident = Absent }
@@ -28,11 +27,11 @@ tooFast = record { silent = false; command = C.Speed 1000001; ident = Absent }
 pub record Examples : Type 0 where
   pub query-line : lineOf query ≡ chars "W0" ++ (13 ∷ [])
   pub query-rest : bufferOf query (replicate 10 7) ≡ chars "W0" ++ (13 ∷ replicate 7 7)
-  pub query-named : writtenOf named (replicate 10 7) ≡ Refused 19
+  pub query-named : writtenOf named (replicate 10 7) ≡ refused 19
   pub minus-zero : lineOf minusZero ≡ chars "P40800007" ++ (13 ∷ [])
-  pub minus-zero-length : writtenOf minusZero (replicate 12 7) ≡ Length 10
-  pub short-first : writtenOf tooFast (replicate 9 7) ≡ Refused 18
-  pub too-fast : writtenOf tooFast (replicate 10 7) ≡ Refused 19
+  pub minus-zero-length : writtenOf minusZero (replicate 12 7) ≡ line 10
+  pub short-first : writtenOf tooFast (replicate 9 7) ≡ refused 18
+  pub too-fast : writtenOf tooFast (replicate 10 7) ≡ refused 19
   pub lowest-of-equals : masterOf (5 ∷ 9 ∷ 0 ∷ 9 ∷ 9 ∷ []) ≡ 1
   pub all-rest : masterOf (0 ∷ 0 ∷ 0 ∷ 0 ∷ 0 ∷ []) ≡ 0
 

@@ -2,6 +2,9 @@ pub mod Contents
 pub mod Writes
 pub mod Accepts
 pub mod Ranges
+pub mod JudgeLaws
 pub mod RoundTrip
+pub mod MachineTrip
+pub mod LineTrips
 pub mod MasterLaws
 pub mod Examples

@@ -4,20 +4,14 @@ use native.Mathlib.Omega.{arith}
 use native.Mathlib.Nat.{lt-of-lt-of-le}
 use mathlib.Core.Bool.{Bool, true, false, _||_, false≢true}
 use mathlib.Core.List.{List}
-use mathlib.Core.Path.{_≡_, refl, sym, _∙_}
+use mathlib.Core.Path.{_≡_, refl, sym, subst, _∙_}
 use borrow.Author.Tests.{le-ltb, ltb-true, ltb-false, leb-true, leb-false, not-true, not-false}
 use lib.Dec.{ltb, leb}
 use lib.ListN.{getD}
 use Rattle.laws.specs.Axes.{some}
 use Rattle.laws.proofs.Five.{five}
 use Rattle.laws.proofs.Pick.{by-bool}
-use Rattle.host.specs.Master.{isLongest, masterOf}
-
--- Axis k is one of five, none of them is longer, and each lower one is shorter.
-pub record Longest (d : List ℕ) (k : ℕ) : Type 0 where
-  pub axis : k < 5
-  pub longest : (j : ℕ) → j < 5 → getD d j 0 ≤ getD d k 0
-  pub lowest : (j : ℕ) → j < k → getD d j 0 < getD d k 0
+use Rattle.host.specs.Master.{isLongest, masterOf, Longest}
 
 -- ---- tests of the five axes
 
@@ -188,3 +182,7 @@ module _ (d : List ℕ) where
   unfolding masterOf
   master-none z =
       rw (is-over 0 (λ j h. let p = z j h in let q = z 0 (omega arith) in omega arith))
+
+-- What is picked, with that.
+pub picked : (d : List ℕ) {k : ℕ} → k ≡ masterOf d → (k ≡ masterOf d) × Longest d k
+picked d e = (e, subst (Longest d) (sym e) (master-longest d))

@@ -19,7 +19,7 @@ pub both : (a b : Bool) → (a && b) ≡ true → (a ≡ true) × (b ≡ true)
 both true b e = (refl, e)
 both false b e = absurd (false≢true e)
 
-within : (n low high : ℕ) → isWithin n low high ≡ true → (low ≤ n) × (n ≤ high)
+pub within : (n low high : ℕ) → isWithin n low high ≡ true → (low ≤ n) × (n ≤ high)
 within n low high e =
     let t = both (leb low n) (leb n high) e in
     (leb-true low n (t .0), leb-true n high (t .1))

@@ -1,20 +1,20 @@
--- The round trip of lines: the bytes that the writer makes of a request that has a line, received by the controller one
+-- The round trip of lines over the receiver: the bytes that the writer makes of a request that has a line, received one
 -- after the other with nothing received before, are characters up to the 0D, and at the 0D that very line: the command,
 -- whether it is silent, and the identification. Assumes nothing.
 use Prim.Native.Nat.{ℕ, _+_, _-_, _/_, _%_, _≤_, _<_}
 use native.Mathlib.Omega.{arith}
-use mathlib.Core.Bool.{Bool, true, false, cond, false≢true}
+use mathlib.Core.Bool.{Bool, true, false, cond, not, false≢true}
 use mathlib.Core.List.{List, [], _∷_, _++_, append-assoc, append-nil}
 use mathlib.Core.Path.{_≡_, refl, sym, ap, _∙_}
-use borrow.Author.Tests.{le-ltb, ne-eqb}
-use lib.Dec.{eqb}
-use lib.ListN.{length}
+use borrow.Author.Tests.{ne-eqb, ltb-false}
+use lib.Dec.{ltb, eqb}
+use lib.ListN.{length, length-append}
 use Rattle.laws.proofs.Pick.{by-lt, by-bool}
 use Rattle.digits.specs.Digits.{digitOf, capitalOf, sixOf, numberOf}
 use Rattle.digits.specs.declared.Ident.{Ident}
 use Rattle.digits.specs.declared.Ident.the-variants.{Absent, Given}
 use Rattle.digits.proofs.Laws.{six-number}
-use Rattle.block.specs.Block.{blockOf, frontOf}
+use Rattle.block.specs.Block.{blockOf, over, frontOf}
 use Rattle.block.proofs.Blocks.{block-most}
 use Rattle.block.proofs.Buffers.{front-over}
 use Rattle.line.specs.declared.Command.{Command}
@@ -38,16 +38,19 @@ use Rattle.host.specs.Writer.{
   queryOf,
   fullOf,
   lineOf,
+  line,
+  refused,
+  writtenOf,
   bufferOf,
 }
-use Rattle.host.specs.RoundTrip.{heardAll, endedAfter}
+use Rattle.host.specs.RoundTrip.{heardAll, endedAfter, heardAs}
 use Rattle.host.proofs.Accepts.{accepts, digits-fit}
 use Rattle.host.proofs.Ranges.{both, range-fits}
 
 -- ---- characters up to the 0D
 
 -- None of them is 0D.
-abbrev NoEnd : List ℕ → Type 0
+abbrev pub NoEnd : List ℕ → Type 0
 NoEnd [] = 0 < 1
 NoEnd (c ∷ cs) = (eqb c 13 ≡ false) × NoEnd cs
 
@@ -152,14 +155,17 @@ module _ (letter n : ℕ) (low : n < 16777216) (known : isLetter letter ≡ true
 
 -- ---- the whole line heard
 
--- The bytes, received from nothing: characters, then this line.
-abbrev Read : List ℕ → Bool → Ident → Command → ℕ → Type 0
-Read bytes silent ident c n = heardAll [] bytes ≡ endedAfter (length bytes - 1) (Line silent ident (Accepted c n))
+-- The bytes are characters and a 0D, and the characters are this line.
+pub record Lined (bytes : List ℕ) (silent : Bool) (ident : Ident) (c : Command) (n : ℕ) : Type 0 where
+  pub chars : List ℕ
+  pub ended : bytes ≡ chars ++ (13 ∷ [])
+  pub no-end : NoEnd chars
+  pub heard : heardLine chars ≡ Line silent ident (Accepted c n)
 
-query-read : (silent : Bool) → Read (queryOf silent) silent Absent C.Inputs 0
+query-lined : (silent : Bool) → Lined (queryOf silent) silent Absent C.Inputs 0
 unfolding judgeOf judgeForm numberOf
-query-read true = refl
-query-read false = refl
+query-lined true = record { chars = 87 ∷ 52 ∷ []; ended = refl; no-end = (refl, (refl, omega arith)); heard = refl }
+query-lined false = record { chars = 87 ∷ 48 ∷ []; ended = refl; no-end = (refl, (refl, omega arith)); heard = refl }
 
 module _ (c : Command) (fits : CommandFits c) (full : isQuery c ≡ false) where
   judged : (cs : List ℕ) → judgeOf cs ≡ judgeValue (letterOf c) 6 (digitsOf c)
@@ -186,17 +192,21 @@ module _ (c : Command) (fits : CommandFits c) (full : isQuery c ≡ false) where
       λ i. Line false (Given x)
       (judged _ (judged-named (letterOf c) (digitsOf c) (digits-fit c fits) (letter-is c) false x e) i)
 
-  full-read : (silent : Bool) (ident : Ident) → identFits ident ≡ true
-      → Read (fullOf silent (letterOf c) (digitsOf c) ident) silent ident c (digitsOf c)
+  full-lined : (silent : Bool) (ident : Ident) → identFits ident ≡ true
+      → Lined (fullOf silent (letterOf c) (digitsOf c) ident) silent ident c (digitsOf c)
   unfolding blockOf sixOf
-  full-read silent Absent e =
-      line-heard [] (chars (letterOf c) silent (digitsOf c) [])
-      (chars-no-end c silent (digitsOf c) [] (omega arith))
-      ∙ ap (endedAfter 8) (bare-line silent)
-  full-read silent (Given x) e =
-      line-heard [] (chars (letterOf c) silent (digitsOf c) (x ∷ []))
-      (chars-no-end c silent (digitsOf c) (x ∷ []) (ident-no-end x e, omega arith))
-      ∙ ap (endedAfter 9) (named-line silent x e)
+  full-lined silent Absent e = record {
+    chars = chars (letterOf c) silent (digitsOf c) [];
+    ended = refl;
+    no-end = chars-no-end c silent (digitsOf c) [] (omega arith);
+    heard = bare-line silent;
+  }
+  full-lined silent (Given x) e = record {
+    chars = chars (letterOf c) silent (digitsOf c) (x ∷ []);
+    ended = refl;
+    no-end = chars-no-end c silent (digitsOf c) (x ∷ []) (ident-no-end x e, omega arith);
+    heard = named-line silent x e;
+  }
 
 absent-is : (ident : Ident) → isAbsent ident ≡ true → ident ≡ Absent
 absent-is Absent e = refl
@@ -222,21 +232,28 @@ query-is C.Everything e = absurd (false≢true e)
 query-is C.Inputs e = refl
 query-is (C.Outputs v) e = absurd (false≢true e)
 
-whole-read : (silent : Bool) (c : Command) (ident : Ident) (query : Bool) → isQuery c ≡ query → CommandFits c
+whole-lined : (silent : Bool) (c : Command) (ident : Ident) (query : Bool) → isQuery c ≡ query → CommandFits c
     → cond query (isAbsent ident) (identFits ident) ≡ true
-    → Read (cond query (queryOf silent) (fullOf silent (letterOf c) (digitsOf c) ident)) silent ident c (digitsOf c)
-whole-read silent c ident true q h e = rw (query-is c q, absent-is ident e) (query-read silent)
-whole-read silent c ident false q h e = full-read c h q silent ident e
+    → Lined (cond query (queryOf silent) (fullOf silent (letterOf c) (digitsOf c) ident)) silent ident c (digitsOf c)
+whole-lined silent c ident true q h e = rw (query-is c q, absent-is ident e) (query-lined silent)
+whole-lined silent c ident false q h e = full-lined c h q silent ident e
 
--- Every request with a line, whole: its bytes are so many characters and a 0D, and at the 0D the controller has the
--- same command, silent or not, with the same identification.
-pub round-trip : (r : Request) → hasLine r ≡ true
-    → heardAll [] (lineOf r)
-    ≡ endedAfter (length (lineOf r) - 1) (Line (r .silent) (r .ident) (Accepted (r .command) (digitsOf (r .command))))
+-- Every request with a line, whole: its bytes are so many characters and a 0D, and the characters are the same command,
+-- silent or not, with the same identification.
+pub request-lined : (r : Request) → hasLine r ≡ true
+    → Lined (lineOf r) (r .silent) (r .ident) (r .command) (digitsOf (r .command))
 unfolding lineOf
-round-trip r e =
+request-lined r e =
     let t = both (inRange (r .command)) _ e in
-    whole-read (r .silent) (r .command) (r .ident) (isQuery (r .command)) refl (range-fits (r .command) (t .0)) (t .1)
+    whole-lined (r .silent) (r .command) (r .ident) (isQuery (r .command)) refl (range-fits (r .command) (t .0)) (t .1)
+
+pub round-trip : (r : Request) → hasLine r ≡ true
+    → heardAll [] (lineOf r) ≡ endedAfter (length (lineOf r) - 1) (heardAs r (digitsOf (r .command)))
+round-trip r e =
+    let l = request-lined r e in
+    let n : length (lineOf r) - 1 ≡ length (l .chars) =
+    omega (arith, ap length (l .ended), length-append (l .chars) (13 ∷ [])) in
+    rw (n, l .ended) (line-heard [] (l .chars) (l .no-end) ∙ ap (endedAfter (length (l .chars))) (l .heard))
 
 -- ---- the bytes in the buffer
 
@@ -246,9 +263,24 @@ line-most r =
     by-bool (λ (s : List ℕ). length s ≤ 10) (isQuery (r .command)) (queryOf (r .silent)) _ (λ _. omega arith)
     (λ _. block-most _)
 
--- The front part of the buffer that the writer fills is the line.
-pub front-line : (r : Request) (d : List ℕ) → 10 ≤ length d → hasLine r ≡ true
-    → frontOf (bufferOf r d) (length (lineOf r)) ≡ lineOf r
-unfolding bufferOf
-front-line r d h e =
-    rw (le-ltb (length d) 10 h, e) (front-over (lineOf r) d (omega (arith, line-most r)))
+-- Where a line is written, the front part of the buffer is the line.
+pub front-line : (r : Request) (d : List ℕ) (n : ℕ) → writtenOf r d ≡ line n
+    → (hasLine r ≡ true) × (frontOf (bufferOf r d) n ≡ lineOf r)
+unfolding writtenOf bufferOf
+front-line r d n = roomy (ltb (length d) 10) refl
+  where
+    other : {P : Type 0} (k : ℕ) → refused k ≡ line n → P
+    other k e = let z : _≡_ {A = ℕ} 0 1 = cc in absurd (omega arith)
+
+    lined : (t : Bool) → hasLine r ≡ t → 10 ≤ length d → cond (not t) (refused 19) (line (length (lineOf r))) ≡ line n
+        → (t ≡ true) × (frontOf (cond (not t) d (over (lineOf r) d)) n ≡ lineOf r)
+    lined true p h e =
+        let size : length (lineOf r) ≡ n = cc in
+        (refl, rw (← size) (front-over (lineOf r) d (omega (arith, line-most r))))
+    lined false p h e = other 19 e
+
+    roomy : (t : Bool) → ltb (length d) 10 ≡ t
+        → cond t (refused 18) (cond (not (hasLine r)) (refused 19) (line (length (lineOf r)))) ≡ line n
+        → (hasLine r ≡ true) × (frontOf (cond t d (cond (not (hasLine r)) d (over (lineOf r) d))) n ≡ lineOf r)
+    roomy true p e = other 18 e
+    roomy false p e = lined (hasLine r) refl (ltb-false (length d) 10 p) e

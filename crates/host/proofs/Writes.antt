@@ -14,7 +14,6 @@ use Rattle.block.specs.Block.{blockOf, over, laid, laidLength}
 use Rattle.block.proofs.Blocks.{block-most}
 use Rattle.block.proofs.Buffers.{stores, laid-over, laid-over-length}
 use Rattle.host.specs.declared.Request.{Request}
-use Rattle.host.specs.declared.Written.the-variants.{Length, Refused}
 use Rattle.host.specs.declared.content.Content.the-variants.{Nothing, Query, Digits}
 use Rattle.host.specs.Writer.{
   letterOf,
@@ -27,6 +26,8 @@ use Rattle.host.specs.Writer.{
   queryOf,
   fullOf,
   lineOf,
+  line,
+  refused,
   writtenOf,
   bufferOf,
   contentOf,
@@ -47,41 +48,41 @@ full-line r e = rw e
 -- ---- the answer
 
 module _ (r : Request) (d : List ℕ) where
-  pub too-short : length d < 10 → (Refused 18 ≡ writtenOf r d) × (d ≡ bufferOf r d)
+  pub too-short : length d < 10 → (refused 18 ≡ writtenOf r d) × (d ≡ bufferOf r d)
   unfolding writtenOf bufferOf
   too-short h = (rw (lt-ltb (length d) 10 h), rw (lt-ltb (length d) 10 h))
 
-  no-line : 10 ≤ length d → hasLine r ≡ false → (Refused 19 ≡ writtenOf r d) × (d ≡ bufferOf r d)
+  no-line : 10 ≤ length d → hasLine r ≡ false → (refused 19 ≡ writtenOf r d) × (d ≡ bufferOf r d)
   unfolding writtenOf bufferOf
   no-line h e = (rw (le-ltb (length d) 10 h, e), rw (le-ltb (length d) 10 h, e))
 
   with-line : {n : ℕ} {buf : List ℕ} → 10 ≤ length d → hasLine r ≡ true → n ≡ length (lineOf r)
-      → buf ≡ over (lineOf r) d → (Length n ≡ writtenOf r d) × (buf ≡ bufferOf r d)
+      → buf ≡ over (lineOf r) d → (line n ≡ writtenOf r d) × (buf ≡ bufferOf r d)
   unfolding writtenOf bufferOf
-  with-line h e p q = (rw (le-ltb (length d) 10 h, e) (ap Length p), rw (le-ltb (length d) 10 h, e) q)
+  with-line h e p q = (rw (le-ltb (length d) 10 h, e) (ap line p), rw (le-ltb (length d) 10 h, e) q)
 
   -- ---- by what the command's line holds
 
   module _ (h : 10 ≤ length d) where
-    pub out-of-range : Nothing ≡ contentOf (r .command) → (Refused 19 ≡ writtenOf r d) × (d ≡ bufferOf r d)
+    pub out-of-range : Nothing ≡ contentOf (r .command) → (refused 19 ≡ writtenOf r d) × (d ≡ bufferOf r d)
     out-of-range e = no-line h (rw (nothing-told (r .command) e))
 
     pub query-named : {t : Bool} → Query ≡ contentOf (r .command) → t ≡ isAbsent (r .ident) → not t ≡ true
-        → (Refused 19 ≡ writtenOf r d) × (d ≡ bufferOf r d)
+        → (refused 19 ≡ writtenOf r d) × (d ≡ bufferOf r d)
     query-named {t} e p q =
         let k = query-told (r .command) e in
         no-line h (rw (k .0, k .1) (sym p ∙ not-true t q))
 
     pub query-written : {t : Bool} {buf : List ℕ} → Query ≡ contentOf (r .command) → t ≡ isAbsent (r .ident)
-        → not t ≡ false → buf ≡ over (queryOf (r .silent)) d → (Length 3 ≡ writtenOf r d) × (buf ≡ bufferOf r d)
+        → not t ≡ false → buf ≡ over (queryOf (r .silent)) d → (line 3 ≡ writtenOf r d) × (buf ≡ bufferOf r d)
     query-written {t} {buf} e p q w =
         let k = query-told (r .command) e in
-        let line = query-line r (k .1) in
-        with-line h (rw (k .0, k .1) (sym p ∙ not-false t q)) (ap length (sym line))
-        (w ∙ ap (λ (s : List ℕ). over s d) (sym line))
+        let whole = query-line r (k .1) in
+        with-line h (rw (k .0, k .1) (sym p ∙ not-false t q)) (ap length (sym whole))
+        (w ∙ ap (λ (s : List ℕ). over s d) (sym whole))
 
     pub full-named : {t : Bool} (l n : ℕ) → Digits l n ≡ contentOf (r .command) → t ≡ identFits (r .ident)
-        → not t ≡ true → (Refused 19 ≡ writtenOf r d) × (d ≡ bufferOf r d)
+        → not t ≡ true → (refused 19 ≡ writtenOf r d) × (d ≡ bufferOf r d)
     full-named {t} l n e p q =
         let k = digits-told (r .command) l n e in
         no-line h (rw (k .fits, k .full) (sym p ∙ not-true t q))
@@ -90,17 +91,17 @@ module _ (r : Request) (d : List ℕ) where
         → t ≡ identFits (r .ident) → not t ≡ false → s ≡ switchOf (r .silent)
         → size ≡ laidLength 0 (blockOf (record { letter = l; switch = s; number = n; ident = r .ident })) d
         → buf ≡ laid 0 (blockOf (record { letter = l; switch = s; number = n; ident = r .ident })) d
-        → (Length size ≡ writtenOf r d) × (buf ≡ bufferOf r d)
+        → (line size ≡ writtenOf r d) × (buf ≡ bufferOf r d)
     full-written {t} l n s {size} {buf} e p q o w z =
         let k = digits-told (r .command) l n e in
         let b : Block = record { letter = l; switch = s; number = n; ident = r .ident } in
-        let line : blockOf b ≡ lineOf r =
+        let whole : blockOf b ≡ lineOf r =
         (λ i. blockOf (record { letter = k .letter i; switch = o i; number = k .digits i; ident = r .ident }))
         ∙ sym (full-line r (k .full)) in
         let m : length (blockOf b) ≤ length d = omega (arith, block-most b) in
         with-line h (rw (k .fits, k .full) (sym p ∙ not-false t q))
-        (w ∙ laid-over-length (blockOf b) d m ∙ ap length line)
-        (z ∙ laid-over (blockOf b) d m ∙ ap (λ (x : List ℕ). over x d) line)
+        (w ∙ laid-over-length (blockOf b) d m ∙ ap length whole)
+        (z ∙ laid-over (blockOf b) d m ∙ ap (λ (x : List ℕ). over x d) whole)
 
 -- ---- the stores of a W query
 

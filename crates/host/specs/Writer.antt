@@ -146,12 +146,24 @@ lineOf r =
 
 -- ---- The answer, and the buffer d after it
 
+-- What the writer answers in the paper's terms.
+pub data Result : Type 0 where
+  -- number 0: a line of this length stands at the front of the buffer
+  line : ℕ → Result
+  -- the number that turns the request away
+  refused : ℕ → Result
+
+-- The paper's number and values for each case of the writer's answer.
+abbrev pub resultOf : Written → Result
+resultOf (Length n) = line n
+resultOf (Refused n) = refused n
+
 -- 18. Line buffer under 10 bytes. 19. Value without a line. Else the line's length.
-unfoldable pub writtenOf : Request → List ℕ → Written
+unfoldable pub writtenOf : Request → List ℕ → Result
 writtenOf r d =
-    cond (ltb (length d) 10) (Refused 18)
-    (cond (not (hasLine r)) (Refused 19)
-    (Length (length (lineOf r))))
+    cond (ltb (length d) 10) (refused 18)
+    (cond (not (hasLine r)) (refused 19)
+    (line (length (lineOf r))))
 
 -- A refusal leaves the buffer as it was; bytes past the line keep their values.
 unfoldable pub bufferOf : Request → List ℕ → List ℕ

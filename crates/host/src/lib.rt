@@ -6,15 +6,17 @@ ghost use Prim.Native.Nat.{_≤_};
 ghost use mathlib.Core.Path.{_≡_};
 ghost use lib.ListN.{length};
 ghost use Rattle.block.specs.Block.{over};
-ghost use Rattle.host.specs.Master.{noneLonger, masterOf};
+ghost use Rattle.host.specs.Master.{noneLonger, masterOf, Longest};
 ghost use Rattle.host.specs.Writer.{
   identFits,
   isAbsent,
   switchOf,
   queryOf,
+  resultOf,
   writtenOf,
   bufferOf,
 };
+ghost use Rattle.host.specs.RoundTrip.{LineTrip, LineBack};
 use crate::content::Content;
 use block::Block;
 use digits::Digit;
@@ -91,10 +93,13 @@ fn write_query(buf: &mut [u8], silent: bool)
 }
 
 // The line of a request at the front of a lent buffer: 18 for a buffer under 10 bytes, then 19 for a value without a
-// line; both leave the buffer as it was.
+// line; both leave the buffer as it was. That the controller reads every such line as the same command, and that 19 is
+// exactly for values without a line, stand here as promises.
 pub fn write_line(buf: &mut [u8], request: Request) -> Written
-    ensures { λ r. ⌜ r ≡ writtenOf request (now (buf .entry)) ⌝ }
+    ensures { λ r. ⌜ resultOf r ≡ writtenOf request (now (buf .entry)) ⌝ }
     ensures { λ r. ⌜ now (buf .exit) ≡ bufferOf request (now (buf .entry)) ⌝ }
+    ensures { λ _. ⌜ LineTrip ⌝ }
+    ensures { λ _. ⌜ LineBack ⌝ }
 {
     if buf.len() < LINE_ROOM {
         return Written::Refused(18);
@@ -151,6 +156,7 @@ fn none_longer(distances: [u32; 5], length: u32) -> bool
 // The master for a move with these distances: the longest; of equals the lowest axis; 0 if all are 0.
 pub fn pick_master(distances: [u32; 5]) -> u8
     ensures { λ r. ⌜ r ≡ masterOf distances ⌝ }
+    ensures { λ r. ⌜ Longest distances r ⌝ }
 {
     if none_longer(distances, distances[0]) {
         return 0;

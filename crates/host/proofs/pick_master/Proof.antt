@@ -2,6 +2,7 @@
 use borrow.Author.Needs.{needs}
 use Rattle.laws.proofs.Pick.{picks, tolds}
 use Rattle.host.specs.Master.{masterOf}
+use Rattle.host.proofs.MasterLaws.{picked}
 use Rattle.host.proofs.pick_master.Statement.{statement}
 use Rattle.host.proofs.pick_master.Tie as tie
 
@@ -13,7 +14,7 @@ none-longer-requires c κs = search needs
 
 returns : tie.Need-returns
 unfolding masterOf
-returns c = search (picks, tolds) depth 11
+returns c = picked _ (search (picks, tolds) depth 11)
 
 array-read-none-longer-2 : tie.Need-array-read-none-longer-2
 array-read-none-longer-2 c = search needs
@@ -23,7 +24,7 @@ none-longer-requires-2 c κs = search needs
 
 returns-2 : tie.Need-returns-2
 unfolding masterOf
-returns-2 c = search (picks, tolds) depth 11
+returns-2 c = picked _ (search (picks, tolds) depth 11)
 
 array-read-none-longer-3 : tie.Need-array-read-none-longer-3
 array-read-none-longer-3 c = search needs
@@ -33,7 +34,7 @@ none-longer-requires-3 c κs = search needs
 
 returns-3 : tie.Need-returns-3
 unfolding masterOf
-returns-3 c = search (picks, tolds) depth 11
+returns-3 c = picked _ (search (picks, tolds) depth 11)
 
 array-read-none-longer-4 : tie.Need-array-read-none-longer-4
 array-read-none-longer-4 c = search needs
@@ -43,11 +44,11 @@ none-longer-requires-4 c κs = search needs
 
 returns-4 : tie.Need-returns-4
 unfolding masterOf
-returns-4 c = search (picks, tolds) depth 11
+returns-4 c = picked _ (search (picks, tolds) depth 11)
 
 returns-5 : tie.Need-returns-5
 unfolding masterOf
-returns-5 c = search (picks, tolds) depth 11
+returns-5 c = picked _ (search (picks, tolds) depth 11)
 
 pub pick-master-spec : {M : Type 1} → statement M
 pick-master-spec =

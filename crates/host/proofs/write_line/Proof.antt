@@ -1,4 +1,4 @@
--- The writer, by what the line of the command holds. Assumes nothing.
+-- The writer, by what the line of the command holds; what it promises of every line is in LineTrips. Assumes nothing.
 use borrow.Author.Needs.{needs}
 use native.Mathlib.Omega.{arith}
 use mathlib.Core.Path.{sym, _∙_}
@@ -11,13 +11,14 @@ use Rattle.host.proofs.Writes.{
   full-named,
   full-written,
 }
+use Rattle.host.proofs.LineTrips.{promised}
 use Rattle.host.proofs.write_line.Statement.{statement}
 use Rattle.host.proofs.write_line.Tie as tie
 
 returns : tie.Need-returns
 returns c =
     let a = c .before .before .args in
-    too-short (a .request) (now (a .buf)) (omega arith)
+    promised (too-short (a .request) (now (a .buf)) (omega arith))
 
 content-of-requires : tie.Need-content-of-requires
 content-of-requires c κs = search needs
@@ -35,9 +36,9 @@ returns-2 : tie.Need-returns-2
 returns-2 c =
     let k = c .before .before .before .before in
     let a = k .before .before .before .args in
-    query-named (a .request) (now (a .buf)) (omega arith)
+    promised (query-named (a .request) (now (a .buf)) (omega arith)
     (sym (c .before .before .enum-told2 .given .1) ∙ k .content-of .ensures)
-    (c .before .is-absent .ensures) (c .if2 .taken)
+    (c .before .is-absent .ensures) (c .if2 .taken))
 
 write-query-requires : tie.Need-write-query-requires
 write-query-requires c κs = search needs
@@ -53,8 +54,8 @@ returns-3 c =
     let o = c .before .before .before .content .given in
     let k = c .before .before .before .before .before in
     let a = k .before .before .before .args in
-    full-named (a .request) (now (a .buf)) (omega arith) (o .0 .0) (o .0 .1 .0)
-    (sym (o .1) ∙ k .content-of .ensures) (c .before .is-ident .ensures) (c .if3 .taken)
+    promised (full-named (a .request) (now (a .buf)) (omega arith) (o .0 .0) (o .0 .1 .0)
+    (sym (o .1) ∙ k .content-of .ensures) (c .before .is-ident .ensures) (c .if3 .taken))
 
 switch-requires : tie.Need-switch-requires
 switch-requires c κs = search needs
@@ -65,8 +66,8 @@ write-block-requires c κs = search needs
 returns-4 : tie.Need-returns-4
 returns-4 c =
     let a = c .before .before .before .before .before .args in
-    out-of-range (a .request) (now (a .buf)) (omega arith)
-    (sym (c .enum-told .given .1) ∙ c .before .before .content-of .ensures)
+    promised (out-of-range (a .request) (now (a .buf)) (omega arith)
+    (sym (c .enum-told .given .1) ∙ c .before .before .content-of .ensures))
 
 same-length : tie.Need-same-length
 same-length c = search needs
@@ -77,9 +78,9 @@ returns-5 c =
     let i = w .before .before in
     let k = i .before .before .before .before in
     let a = k .before .before .before .args in
-    query-written (a .request) (now (a .buf)) (omega arith)
+    promised (query-written (a .request) (now (a .buf)) (omega arith)
     (sym (i .before .before .enum-told2 .given .1) ∙ k .content-of .ensures)
-    (i .before .is-absent .ensures) (i .if2 .left) (w .write-query .ensures)
+    (i .before .is-absent .ensures) (i .if2 .left) (w .write-query .ensures))
 
 same-length-2 : tie.Need-same-length-2
 same-length-2 c = search needs
@@ -92,9 +93,9 @@ returns-6 c =
     let o = i .before .before .before .content .given in
     let k = i .before .before .before .before .before in
     let a = k .before .before .before .args in
-    full-written (a .request) (now (a .buf)) (omega arith) (o .0 .0) (o .0 .1 .0) (s .switch .result)
+    promised (full-written (a .request) (now (a .buf)) (omega arith) (o .0 .0) (o .0 .1 .0) (s .switch .result)
     (sym (o .1) ∙ k .content-of .ensures) (i .before .is-ident .ensures) (i .if3 .left)
-    (s .switch .ensures) (w .write-block .ensures .0) (w .write-block .ensures .1)
+    (s .switch .ensures) (w .write-block .ensures .0) (w .write-block .ensures .1))
 
 pub write-line-spec : {M : Type 1} → statement M
 write-line-spec =

@@ -1,0 +1,85 @@
+-- What the writer promises of every request and of every line: the trip of lines and its converse. Assumes nothing.
+use Prim.Native.Nat.{ℕ, _≤_, _<_}
+use native.Mathlib.Omega.{arith}
+use mathlib.Core.Bool.{Bool, true, false, cond, not, false≢true}
+use mathlib.Core.List.{List}
+use mathlib.Core.Path.{_≡_, refl, sym, _∙_}
+use borrow.Author.Tests.{le-ltb}
+use lib.Dec.{ltb}
+use lib.ListN.{length}
+use Rattle.digits.specs.declared.Ident.{Ident}
+use Rattle.line.specs.declared.Command.{Command}
+use Rattle.line.specs.declared.Judged.{Judged}
+use Rattle.line.specs.declared.Judged.the-variants.{Accepted}
+use Rattle.line.specs.Line.{silentOf, identOf, judgeOf}
+use Rattle.receiver.specs.declared.Heard.{Heard}
+use Rattle.receiver.specs.declared.Heard.the-variants.{Line}
+use Rattle.receiver.specs.Receiver.{heardLine}
+use Rattle.host.specs.declared.Request.{Request}
+use Rattle.host.specs.Writer.{digitsOf, hasLine, lineOf, line, refused, writtenOf}
+use Rattle.host.specs.RoundTrip.{heardAs, requestIn, LineTrip, Asked, LineBack}
+use Rattle.host.proofs.Ranges.{accepted-range}
+use Rattle.host.proofs.JudgeLaws.{accepted-named}
+use Rattle.host.proofs.RoundTrip.{request-lined, round-trip, front-line}
+use Rattle.host.proofs.MachineTrip.{machine-trip}
+
+pub line-trip : LineTrip
+line-trip = record { front = front-line; heard = round-trip; obeys = machine-trip }
+
+-- ---- the converse
+
+has-line : (cs : List ℕ) (c : Command) (digits : ℕ) → judgeOf cs ≡ Accepted c digits
+    → hasLine (requestIn cs c) ≡ true
+has-line cs c digits e = rw (accepted-range cs c digits e) (accepted-named cs c digits e)
+
+-- A request that some line asks for has a line.
+asked-has : (r : Request) → Asked r → hasLine r ≡ true
+asked-has r a =
+    let s : silentOf (a .chars) ≡ r .silent = silent (a .heard) in
+    let i : identOf (a .chars) ≡ r .ident = ident (a .heard) in
+    let j : judgeOf (a .chars) ≡ Accepted (r .command) (a .digits) = judged (a .heard) in
+    sym (λ k. hasLine (record { silent = s k; command = r .command; ident = i k }))
+    ∙ has-line (a .chars) (r .command) (a .digits) j
+  where
+    silent : {a b : Bool} {i j : Ident} {x y : Judged} → Line a i x ≡ Line b j y → a ≡ b
+    silent e = cc
+
+    ident : {a b : Bool} {i j : Ident} {x y : Judged} → Line a i x ≡ Line b j y → i ≡ j
+    ident e = cc
+
+    judged : {a b : Bool} {i j : Ident} {x y : Judged} → Line a i x ≡ Line b j y → x ≡ y
+    judged e = cc
+
+has-asked : (r : Request) → hasLine r ≡ true → Asked r
+has-asked r e =
+    let l = request-lined r e in
+    record { chars = l .chars; digits = digitsOf (r .command); heard = l .heard }
+
+module _ (r : Request) (d : List ℕ) where
+  without : writtenOf r d ≡ refused 19 → Asked r → ⊥
+  unfolding writtenOf
+  without e a = short (ltb (length d) 10) (rw (asked-has r a) at e)
+    where
+      short : (t : Bool) → cond t (refused 18) (line (length (lineOf r))) ≡ refused 19 → ⊥
+      short true e = let z : _≡_ {A = ℕ} 18 19 = cc in omega arith
+      short false e = let z : _≡_ {A = ℕ} 0 1 = cc in omega arith
+
+  only : 10 ≤ length d → (Asked r → ⊥) → writtenOf r d ≡ refused 19
+  unfolding writtenOf
+  only h not-asked = rw (le-ltb (length d) 10 h) (when (hasLine r) refl)
+    where
+      when : (t : Bool) → hasLine r ≡ t → cond (not t) (refused 19) (line (length (lineOf r))) ≡ refused 19
+      when true e = absurd (not-asked (has-asked r e))
+      when false e = refl
+
+pub line-back : LineBack
+line-back = record {
+  has = has-line;
+  same = λ cs c digits e. round-trip (requestIn cs c) (has-line cs c digits e);
+  without = without;
+  only = only;
+}
+
+-- What a return answers, with both.
+pub promised : {A B : Type 0} → A × B → A × (B × (LineTrip × LineBack))
+promised e = (e .0, (e .1, (line-trip, line-back)))
