@@ -37,8 +37,12 @@ use Rattle.machine.specs.Steps.{
   tooLarge,
   tickStep,
 }
-use Rattle.machine.specs.Calls.{Call, byte, tick, after, run, state}
-use Rattle.reader.proofs.BlockLaws.{SwitchFits}
+use Rattle.machine.specs.Calls.{Call, byte, tick, after, state}
+
+-- One digit, and not C.
+pub record SwitchFits (switch : ℕ) : Type 0 where
+  pub low : switch < 16
+  pub other : switch ≡ 12 → ⊥
 
 pub record Kept (m : Machine) : Type 0 where
   pub switch : SwitchFits (m .switch)
@@ -63,10 +67,10 @@ either-false false b e = (refl, e)
 
 kept-power : (s : ℕ) → Kept (powerOn s)
 kept-power s = record {
-  switch = by-bool SwitchFits (badSwitch s) 0 s (λ _. record { low = omega arith; no = λ e. omega arith })
+  switch = by-bool SwitchFits (badSwitch s) 0 s (λ _. record { low = omega arith; other = λ e. omega arith })
       (λ q. let t = either-false (ltb 15 s) (eqb s 12) q in
       let l = ltb-false 15 s (t .0) in
-      record { low = omega arith; no = eqb-false s 12 (t .1) });
+      record { low = omega arith; other = eqb-false s 12 (t .1) });
   inputs = omega arith;
 }
 
@@ -160,6 +164,6 @@ kept-after m (tick w) k = kept-tick m w k
 
 -- Every machine that calls make from power-on.
 pub kept : (s : ℕ) (h : List Call) → Kept (state s h)
-unfolding run
+unfolding state
 kept s [] = kept-power s
 kept s (x ∷ h) = kept-after (state s h) x (kept s h)

@@ -4,4 +4,5 @@ pub mod LineLaws
 pub mod KeptLaws
 pub mod ReadBack
 pub mod OnlyBlocks
+pub mod Promises
 pub mod Examples

@@ -2,43 +2,37 @@
 -- that which a turned-away line is answered with; an order's digits have its code and range. Assumes nothing.
 use Prim.Native.Nat.{ℕ, _≤_, _<_}
 use native.Mathlib.Omega.{arith}
-use mathlib.Core.Bool.{Bool, true, false, not, _||_, false≢true}
+use mathlib.Core.Bool.{true}
 use mathlib.Core.List.{List}
 use mathlib.Core.Path.{_≡_, refl, sym, _∙_}
-use borrow.Author.Tests.{not-false}
-use lib.Dec.{ltb}
-use lib.ListN.{length}
-use Rattle.laws.proofs.Pick.{by-bool, by-lt, by-eq}
-use Rattle.digits.specs.Digits.{digitOf, numberOf}
+use Rattle.laws.proofs.Pick.{by-lt, by-eq}
+use Rattle.digits.specs.Digits.{numberOf}
 use Rattle.digits.specs.declared.Ident.{Ident}
 use Rattle.digits.specs.declared.Ident.the-variants.{Absent}
 use Rattle.line.specs.declared.Command.{Command}
 use Rattle.line.specs.declared.Command.the-variants as C
+use Rattle.line.specs.declared.form.Form.{Form}
+use Rattle.line.specs.declared.form.Form.the-variants as F
 use Rattle.line.specs.declared.Judged.{Judged}
 use Rattle.line.specs.declared.Judged.the-variants.{Accepted, Refused}
 use Rattle.line.specs.Line.{
   charAt,
-  isLetter,
-  isSwitch,
-  isIdent,
-  isNumber,
   valueOf,
   identOf,
   digitCount,
   digitChars,
   code,
+  formP,
+  formQ,
+  formq,
   formOf,
-  isListed,
-  hasCount,
   inRange,
-  judgeForm,
-  judgeValue,
+  commandOf,
   judgeOf,
 }
-use Rattle.line.specs.Fits.{OrderFits, JudgedFits}
-use Rattle.line.proofs.Fits.{judge-fits}
 use Rattle.reply.specs.Reply.{refusalIdent}
 use Rattle.host.specs.Writer.{identFits}
+use Rattle.host.proofs.JudgeLaws.{by-form, by-judge}
 use Rattle.reader.specs.Reader.{isEcho}
 use Rattle.reader.proofs.BlockLaws.{EchoFits}
 
@@ -46,6 +40,63 @@ always : 0 < 1
 always = omega arith
 
 -- ---- an order's digits
+
+-- The code of a row that is echoed.
+abbrev Coded : ℕ → Form → Type 0
+Coded k F.Unlisted = 0 < 1
+Coded k (F.DistanceForm j) = 0 < 1
+Coded k F.SpeedForm = 0 < 1
+Coded k F.SlopeForm = 0 < 1
+Coded k F.DwellForm = 0 < 1
+Coded k F.WatchForm = 0 < 1
+Coded k F.PolarityForm = 0 < 1
+Coded k (F.TravelForm j) = 0 < 1
+Coded k F.StatusForm = 0 < 1
+Coded k F.StartForm = k ≡ 8
+Coded k F.StopForm = k ≡ 9
+Coded k F.ClearForm = k ≡ 10
+Coded k F.ResetForm = k ≡ 11
+Coded k F.LowOnForm = k ≡ 13
+Coded k F.HighOnForm = k ≡ 14
+Coded k (F.PositionForm j) = 0 < 1
+Coded k F.EverythingForm = 0 < 1
+Coded k F.OutputsForm = 0 < 1
+
+coded-p : (k : ℕ) → Coded k (formP k)
+coded-p k =
+    by-lt (Coded k) k 5 _ _ (λ _. always)
+    λ _. by-eq (Coded k) k 8 _ _ (λ _. always)
+    λ _. by-eq (Coded k) k 9 _ _ (λ _. always)
+    λ _. by-eq (Coded k) k 10 _ _ (λ _. always)
+    λ _. by-eq (Coded k) k 11 _ _ (λ _. always)
+    λ _. by-eq (Coded k) k 12 _ _ (λ _. always)
+    λ _. always
+
+coded-q : (k : ℕ) → Coded k (formQ k)
+coded-q k =
+    by-lt (Coded k) k 5 _ _ (λ _. always)
+    λ _. by-eq (Coded k) k 6 _ _ (λ _. always)
+    λ _. by-eq (Coded k) k 8 _ _ (λ e. e)
+    λ _. by-eq (Coded k) k 9 _ _ (λ e. e)
+    λ _. by-eq (Coded k) k 10 _ _ (λ e. e)
+    λ _. by-eq (Coded k) k 11 _ _ (λ e. e)
+    λ _. by-eq (Coded k) k 13 _ _ (λ e. e)
+    λ _. by-eq (Coded k) k 14 _ _ (λ e. e)
+    λ _. always
+
+coded-small : (k : ℕ) → Coded k (formq k)
+coded-small k =
+    by-lt (Coded k) k 5 _ _ (λ _. always)
+    λ _. by-eq (Coded k) k 8 _ _ (λ _. always)
+    λ _. always
+
+form-coded : (letter count k : ℕ) → Coded k (formOf letter count k)
+form-coded letter count k =
+    by-eq (Coded k) letter 87 _ _ (λ _. always)
+    λ _. by-eq (Coded k) count 0 _ _ (λ _. always)
+    λ _. by-eq (Coded k) letter 80 _ _ (λ _. coded-p k)
+    λ _. by-eq (Coded k) letter 81 _ _ (λ _. coded-q k)
+    λ _. coded-small k
 
 -- The digits of a command that is echoed.
 abbrev pub Echoed : Command → ℕ → Type 0
@@ -71,25 +122,25 @@ Echoed (C.Outputs v) n = 0 < 1
 echo-of : (n k : ℕ) → code n ≡ k → 5 ≤ k → (k ≡ 6 → ⊥) → isEcho n ≡ true → EchoFits n
 echo-of n k e h other t = record { axes = omega arith; six = λ q. other (sym e ∙ q); echo = t }
 
-echoed : (c : Command) (n : ℕ) → OrderFits c n → Echoed c n
-echoed (C.Distance k minus d) n f = always
-echoed (C.Speed v) n f = always
-echoed (C.Slope v) n f = always
-echoed (C.Dwell v) n f = always
-echoed (C.Watch v) n f = always
-echoed (C.Polarity v) n f = always
-echoed (C.Travel k) n f = always
-echoed C.Status n f = always
-echoed (C.Start k waits) n f = echo-of n 8 (f .0) (omega arith) (λ e. omega arith) (rw (f .0) (f .1))
-echoed C.Stop n f = echo-of n 9 f (omega arith) (λ e. omega arith) (rw f)
-echoed C.ClearWrongMaster n f = echo-of n 10 f (omega arith) (λ e. omega arith) (rw f)
-echoed C.ResetPositions n f = echo-of n 11 f (omega arith) (λ e. omega arith) (rw f)
-echoed (C.LowOn v) n f = echo-of n 13 (f .0) (omega arith) (λ e. omega arith) (rw (f .0) (f .1))
-echoed (C.HighOn v) n f = echo-of n 14 (f .0) (omega arith) (λ e. omega arith) (rw (f .0) (f .1))
-echoed (C.Position k) n f = always
-echoed C.Everything n f = always
-echoed C.Inputs n f = always
-echoed (C.Outputs v) n f = always
+echoed : (form : Form) (count n : ℕ) → Coded (code n) form → inRange form n ≡ true → Echoed (commandOf form count n) n
+echoed F.Unlisted count n f h = always
+echoed (F.DistanceForm k) count n f h = always
+echoed F.SpeedForm count n f h = always
+echoed F.SlopeForm count n f h = always
+echoed F.DwellForm count n f h = always
+echoed F.WatchForm count n f h = always
+echoed F.PolarityForm count n f h = always
+echoed (F.TravelForm k) count n f h = always
+echoed F.StatusForm count n f h = always
+echoed F.StartForm count n f h = echo-of n 8 f (omega arith) (λ e. omega arith) (rw f h)
+echoed F.StopForm count n f h = echo-of n 9 f (omega arith) (λ e. omega arith) (rw f)
+echoed F.ClearForm count n f h = echo-of n 10 f (omega arith) (λ e. omega arith) (rw f)
+echoed F.ResetForm count n f h = echo-of n 11 f (omega arith) (λ e. omega arith) (rw f)
+echoed F.LowOnForm count n f h = echo-of n 13 f (omega arith) (λ e. omega arith) (rw f h)
+echoed F.HighOnForm count n f h = echo-of n 14 f (omega arith) (λ e. omega arith) (rw f h)
+echoed (F.PositionForm k) count n f h = always
+echoed F.EverythingForm count n f h = always
+echoed F.OutputsForm count n f h = by-eq (λ (c : Command). Echoed c n) count 0 _ _ (λ _. always) (λ _. always)
 
 -- ---- the line
 
@@ -107,43 +158,13 @@ Tells ident (Refused n) = identFits (refusalIdent n ident) ≡ true
 pub named-late : (ident : Ident) (n : ℕ) → identFits ident ≡ true → identFits (refusalIdent n ident) ≡ true
 named-late ident n e = by-lt (λ (i : Ident). identFits i ≡ true) n 8 Absent ident (λ _. refl) (λ _. e)
 
--- The identification alone: from 8 on it is one.
-abbrev Named : Ident → Judged → Type 0
-Named ident (Accepted c n) = identFits ident ≡ true
-Named ident (Refused n) = identFits (refusalIdent n ident) ≡ true
-
-named-value : (ident : Ident) (letter count n : ℕ) → identFits ident ≡ true → Named ident (judgeValue letter count n)
-unfolding judgeForm
-named-value ident letter count n e =
-    let form = formOf letter count (code n) in
-    by-bool (Named ident) (not (isListed form)) _ _ (λ _. named-late ident 8 e)
-    λ _. by-bool (Named ident) (not (hasCount form count)) _ _ (λ _. named-late ident 9 e)
-    λ _. by-bool (Named ident) (not (inRange form n)) _ _ (λ _. named-late ident 10 e)
-    λ _. e
-
-first-false : (a b : Bool) → (a || b) ≡ false → a ≡ false
-first-false true b e = absurd (false≢true (sym e))
-first-false false b e = refl
-
-line-named : (cs : List ℕ) → isIdent (digitOf (charAt cs 8)) ≡ true → identFits (identOf cs) ≡ true
-line-named cs e = by-eq (λ (i : Ident). identFits i ≡ true) (length cs) 9 _ _ (λ _. e) (λ _. refl)
-
-named : (cs : List ℕ) → Named (identOf cs) (judgeOf cs)
-unfolding judgeOf
-named cs =
-    let number = numberOf (digitChars cs) in
-    by-bool (Named (identOf cs)) (ltb (length cs) 2 || ltb 9 (length cs)) _ _ (λ _. refl)
-    λ _. by-bool (Named (identOf cs)) (not (isLetter (charAt cs 0))) _ _ (λ _. refl)
-    λ _. by-bool (Named (identOf cs)) (not (isSwitch (charAt cs 1))) _ _ (λ _. refl)
-    λ _. by-bool (Named (identOf cs)) (not (isIdent (digitOf (charAt cs 8))) || not (isNumber number)) _ _ (λ _. refl)
-    λ q. named-value (identOf cs) (charAt cs 0) (digitCount cs) (valueOf number)
-    (line-named cs (not-false (isIdent (digitOf (charAt cs 8)))
-    (first-false (not (isIdent (digitOf (charAt cs 8)))) (not (isNumber number)) q)))
-
-tells : (ident : Ident) (j : Judged) → JudgedFits j → Named ident j → Tells ident j
-tells ident (Accepted c n) f e = record { named = e; digits = echoed c n (f .order) }
-tells ident (Refused n) f e = e
-
 -- Every line's judgement.
 pub line-tells : (cs : List ℕ) → Tells (identOf cs) (judgeOf cs)
-line-tells cs = tells (identOf cs) (judgeOf cs) (judge-fits cs) (named cs)
+line-tells cs =
+    let ident = identOf cs in
+    let count = digitCount cs in
+    let n = valueOf (numberOf (digitChars cs)) in
+    let form = formOf (charAt cs 0) count (code n) in
+    by-judge (Tells ident) cs refl refl refl refl
+    (λ e. by-form (Tells ident) form count n (named-late ident 8 e) (named-late ident 9 e) (named-late ident 10 e)
+    (λ h. record { named = e; digits = echoed form count n (form-coded (charAt cs 0) count (code n)) h }))

@@ -1,24 +1,26 @@
--- Whatever the reader takes is a block: the bytes are those of a reply block with just the figures that it gives. All
--- else is 20. Assumes nothing.
+-- What the reader takes is exactly the blocks: each block is read as the figures that it says, and whatever is read is
+-- a block that says just this. All else is 20. Assumes nothing.
 use Prim.Native.Nat.{ℕ, _+_, _-_, _%_, _<_}
 use native.Mathlib.Omega.{arith}
-use mathlib.Core.Bool.{true, false, not}
+use mathlib.Core.Bool.{Bool, true, false, not}
 use mathlib.Core.List.{List, [], _∷_, _++_}
 use mathlib.Core.Path.{_≡_, refl, sym, ap, subst, _∙_}
+use borrow.Author.Tests.{eqb-true, eqb-false, not-true}
 use lib.Dec.{leb, eqb}
 use lib.IntN.{ℤ, pos, negsuc}
 use Rattle.laws.proofs.Pick.{by-bool, by-lt, by-le, by-eq}
-use Rattle.digits.specs.Digits.{digitOf, capitalOf, numberOf}
+use Rattle.digits.specs.Digits.{digitOf, capitalOf, numberOf, Under}
 use Rattle.digits.specs.declared.Digit.{Digit}
 use Rattle.digits.specs.declared.Digit.the-variants.{Other, Capital, Small}
 use Rattle.digits.specs.declared.Number.{Number}
 use Rattle.digits.specs.declared.Number.the-variants.{NotDigits, Value}
 use Rattle.digits.specs.declared.Ident.{Ident}
 use Rattle.digits.specs.declared.Ident.the-variants.{Absent, Given}
-use Rattle.digits.proofs.Laws.{Tells, digit-tells, number-six}
+use Rattle.digits.proofs.Laws.{Tells, digit-tells, number-six, under-six}
 use Rattle.block.specs.Block.{identChars, blockOf}
 use Rattle.line.specs.Line.{code, five, isIdent}
 use Rattle.reply.specs.Reply.{coded, blockFor, travelDigits, twenty}
+use Rattle.host.specs.Writer.{identFits}
 use Rattle.reader.specs.Reader.{
   Figures,
   refused,
@@ -39,19 +41,26 @@ use Rattle.reader.specs.Reader.{
   switchIn,
   readOf,
 }
+use Rattle.reader.specs.Blocks.{Framed, VerdictFits, InRange, spelling, Says, Spelt, BlocksRead}
 use Rattle.reader.proofs.ReadLaws.{too-long}
-
--- The bytes of what is read; for no block the number is 20.
-abbrev pub Spelt : List ℕ → Figures → Type 0
-Spelt s (refused n) = n ≡ 20
-Spelt s (verdict switch n ident) = blockFor switch 85 n ident ≡ s
-Spelt s (travelled switch k minus t ident) = blockFor switch 83 (coded k (travelDigits minus t)) ident ≡ s
-Spelt s (status switch v ident) = blockFor switch 83 (coded 6 v) ident ≡ s
-Spelt s (echo switch n ident) = blockFor switch 83 n ident ≡ s
-Spelt s (placed switch k z ident) = blockFor switch 115 (coded k (twenty z)) ident ≡ s
-Spelt s (inputs switch w ident) = blockFor switch 82 w ident ≡ s
+use Rattle.reader.proofs.BlockLaws.{
+  verdict-fits,
+  echo-taken,
+  signed-inside,
+  verdict-read,
+  travel-read,
+  status-read,
+  echo-read,
+  place-read,
+  inputs-read,
+}
 
 -- ---- the fields
+
+number-low : (n : ℕ) (ident : Ident) → VerdictFits n ident → n < 16777216
+number-low n ident f =
+    by-bool (λ (x : Bool). n < 16777216) (eqb n 0) true false (λ e. let z = eqb-true n 0 e in omega arith)
+    (λ e. let h = f (eqb-false n 0 e) .high in omega arith)
 
 travel-digits : (n : ℕ) → coded (code n) (travelDigits (leb 524288 (five n)) (five n % 524288)) ≡ n
 travel-digits n =
@@ -62,17 +71,28 @@ twenty-signed : (v : ℕ) → v < 1048576 → twenty (signed v) ≡ v
 twenty-signed v h =
     by-lt (λ (z : ℤ). twenty z ≡ v) v 524288 (pos v) (negsuc (1048575 - v)) (λ k. omega arith) (λ k. omega arith)
 
-module _ (switch n : ℕ) (ident : Ident) (s : List ℕ) where
+module _ (switch n : ℕ) (ident : Ident) (s : List ℕ) (frame : Framed switch ident) (low : n < 16777216) where
   verdict-spelt : blockFor switch 85 n ident ≡ s → Spelt s (verdictIn switch n ident)
-  verdict-spelt e = by-bool (Spelt s) (isVerdict n ident) _ _ (λ _. e) (λ _. refl)
+  verdict-spelt e =
+      by-bool (Spelt s) (isVerdict n ident) _ _
+      (λ t. record { fits = (frame, verdict-fits n ident t); bytes = e }) (λ _. refl)
 
   order-spelt : blockFor switch 83 n ident ≡ s → Spelt s (orderIn switch n ident)
   order-spelt e =
-      by-lt (Spelt s) (code n) 5 _ _ (λ _. ap (λ (x : ℕ). blockFor switch 83 x ident) (travel-digits n) ∙ e)
-      λ _. by-eq (Spelt s) (code n) 6 _ _
+      by-lt (Spelt s) (code n) 5 _ _
+      (λ k. record {
+        fits = (frame, (k, omega arith));
+        bytes = ap (λ (x : ℕ). blockFor switch 83 x ident) (travel-digits n) ∙ e;
+      })
+      λ h. by-eq (Spelt s) (code n) 6 _ _
       (λ q. by-lt (Spelt s) (five n) 128 _ _
-      (λ _. ap (λ (x : ℕ). blockFor switch 83 x ident) (six q) ∙ e) (λ _. refl))
-      (λ _. by-bool (Spelt s) (isEcho n) _ _ (λ _. e) (λ _. refl))
+      (λ k. record { fits = (frame, k); bytes = ap (λ (x : ℕ). blockFor switch 83 x ident) (six q) ∙ e }) (λ _. refl))
+      (λ q. by-bool (Spelt s) (isEcho n) _ _
+      (λ t. record {
+        fits = (frame, record { six = low; noTravel = h; noStatus = q; taken = echo-taken n h q ∙ t });
+        bytes = e;
+      })
+      (λ _. refl))
     where
       six : code n ≡ 6 → coded 6 (five n) ≡ n
       six q = omega arith
@@ -80,8 +100,11 @@ module _ (switch n : ℕ) (ident : Ident) (s : List ℕ) where
   place-spelt : blockFor switch 115 n ident ≡ s → Spelt s (placeIn switch n ident)
   place-spelt e =
       by-lt (Spelt s) (code n) 5 _ _
-      (λ _. ap (λ (x : ℕ). blockFor switch 115 x ident) (ap (coded (code n)) (twenty-signed (five n) (omega arith))
-      ∙ whole) ∙ e)
+      (λ k. record {
+        fits = (frame, (k, signed-inside (five n) (omega arith)));
+        bytes = ap (λ (x : ℕ). blockFor switch 115 x ident) (ap (coded (code n)) (twenty-signed (five n) (omega arith))
+            ∙ whole) ∙ e;
+      })
       (λ _. refl)
     where
       whole : coded (code n) (five n) ≡ n
@@ -93,32 +116,36 @@ module _ (switch n : ℕ) (ident : Ident) (s : List ℕ) where
       by-eq (Spelt s) letter 85 _ _ (λ q. verdict-spelt (named q))
       λ _. by-eq (Spelt s) letter 83 _ _ (λ q. order-spelt (named q))
       λ _. by-eq (Spelt s) letter 115 _ _ (λ q. place-spelt (named q))
-      λ _. by-eq (Spelt s) letter 82 _ _ (λ q. named q) (λ _. refl)
+      λ _. by-eq (Spelt s) letter 82 _ _ (λ q. record { fits = (frame, low); bytes = named q }) (λ _. refl)
     where
       named : {l : ℕ} → letter ≡ l → blockFor switch l n ident ≡ s
       named q = subst (λ (x : ℕ). blockFor switch x n ident ≡ s) q e
 
 -- ---- the bytes
 
-module _ (a b c1 c2 c3 c4 c5 c6 : ℕ) (ident : Ident) where
+module _ (a b c1 c2 c3 c4 c5 c6 : ℕ) (ident : Ident) (named : identFits ident ≡ true) where
   -- The bytes with this identification.
   abbrev bytes : List ℕ
   bytes = a ∷ b ∷ c1 ∷ c2 ∷ c3 ∷ c4 ∷ c5 ∷ c6 ∷ (identChars ident ++ (13 ∷ []))
 
-  digits-spelt : (v : ℕ) → capitalOf v ≡ b → (n : Number) → numberOf (c1 ∷ c2 ∷ c3 ∷ c4 ∷ c5 ∷ c6 ∷ []) ≡ n
+  digits-spelt : (v : ℕ) → Framed v ident → capitalOf v ≡ b → (n : Number)
+      → numberOf (c1 ∷ c2 ∷ c3 ∷ c4 ∷ c5 ∷ c6 ∷ []) ≡ n
       → Spelt bytes (digitsIn a v n ident)
   unfolding blockOf
-  digits-spelt v p NotDigits e = refl
-  digits-spelt v p (Value n true) e = refl
-  digits-spelt v p (Value n false) e =
-      fields-spelt v n ident bytes a
+  digits-spelt v f p NotDigits e = refl
+  digits-spelt v f p (Value n true) e = refl
+  digits-spelt v f p (Value n false) e =
+      fields-spelt v n ident bytes f (subst (Under 16777216) e (under-six c1 c2 c3 c4 c5 c6)) a
       (λ i. a ∷ p i ∷ (number-six c1 c2 c3 c4 c5 c6 n e i ++ (identChars ident ++ (13 ∷ []))))
 
   switch-spelt : (d : Digit) → Tells b d
       → Spelt bytes (switchIn a d (numberOf (c1 ∷ c2 ∷ c3 ∷ c4 ∷ c5 ∷ c6 ∷ [])) ident)
   switch-spelt Other t = refl
   switch-spelt (Capital v) t =
-      by-bool (Spelt bytes) (not (eqb v 12)) _ _ (λ _. digits-spelt v (t .1) _ refl) (λ _. refl)
+      by-bool (Spelt bytes) (not (eqb v 12)) _ _
+      (λ q. digits-spelt v
+      (record { digit = t .0; other = eqb-false v 12 (not-true (eqb v 12) q); named = named }) (t .1) _ refl)
+      (λ _. refl)
   switch-spelt (Small v) t = refl
 
 -- Every row of bytes.
@@ -137,16 +164,56 @@ only-blocks (a ∷ b ∷ c1 ∷ c2 ∷ c3 ∷ c4 ∷ c5 ∷ c6 ∷ z ∷ []) =
     by-eq (Spelt (a ∷ b ∷ c1 ∷ c2 ∷ c3 ∷ c4 ∷ c5 ∷ c6 ∷ z ∷ [])) z 13 _ _
     (λ e. subst (λ (x : ℕ). Spelt (a ∷ b ∷ c1 ∷ c2 ∷ c3 ∷ c4 ∷ c5 ∷ c6 ∷ x ∷ [])
     (switchIn a (digitOf b) (numberOf (c1 ∷ c2 ∷ c3 ∷ c4 ∷ c5 ∷ c6 ∷ [])) Absent)) (sym e)
-    (switch-spelt a b c1 c2 c3 c4 c5 c6 Absent (digitOf b) (digit-tells b)))
+    (switch-spelt a b c1 c2 c3 c4 c5 c6 Absent refl (digitOf b) (digit-tells b)))
     (λ _. refl)
 only-blocks (a ∷ b ∷ c1 ∷ c2 ∷ c3 ∷ c4 ∷ c5 ∷ c6 ∷ y ∷ z ∷ []) =
     by-eq (Spelt (a ∷ b ∷ c1 ∷ c2 ∷ c3 ∷ c4 ∷ c5 ∷ c6 ∷ y ∷ z ∷ [])) z 13 _ _
     (λ e. by-bool (Spelt (a ∷ b ∷ c1 ∷ c2 ∷ c3 ∷ c4 ∷ c5 ∷ c6 ∷ y ∷ z ∷ [])) (isIdent (digitOf y)) _ _
-    (λ _. subst (λ (x : ℕ). Spelt (a ∷ b ∷ c1 ∷ c2 ∷ c3 ∷ c4 ∷ c5 ∷ c6 ∷ y ∷ x ∷ [])
+    (λ k. subst (λ (x : ℕ). Spelt (a ∷ b ∷ c1 ∷ c2 ∷ c3 ∷ c4 ∷ c5 ∷ c6 ∷ y ∷ x ∷ [])
     (switchIn a (digitOf b) (numberOf (c1 ∷ c2 ∷ c3 ∷ c4 ∷ c5 ∷ c6 ∷ [])) (Given y))) (sym e)
-    (switch-spelt a b c1 c2 c3 c4 c5 c6 (Given y) (digitOf b) (digit-tells b)))
+    (switch-spelt a b c1 c2 c3 c4 c5 c6 (Given y) k (digitOf b) (digit-tells b)))
     (λ _. refl))
     (λ _. refl)
 only-blocks (a ∷ b ∷ c1 ∷ c2 ∷ c3 ∷ c4 ∷ c5 ∷ c6 ∷ y ∷ z ∷ x ∷ l) =
     subst (Spelt (a ∷ b ∷ c1 ∷ c2 ∷ c3 ∷ c4 ∷ c5 ∷ c6 ∷ y ∷ z ∷ x ∷ l))
     (too-long (a ∷ b ∷ c1 ∷ c2 ∷ c3 ∷ c4 ∷ c5 ∷ c6 ∷ y ∷ z ∷ x ∷ l) (omega arith)) refl
+
+-- ---- every block, and nothing else
+
+block-is : (f : Figures) → InRange f → readOf (spelling f) ≡ f
+block-is (refused n) h = absurd h
+block-is (verdict switch n ident) h = verdict-read switch ident (h .0) n (number-low n ident (h .1)) (h .1)
+block-is (travelled switch k minus t ident) h = travel-read switch ident (h .0) k minus t (h .1 .0) (h .1 .1)
+block-is (status switch v ident) h = status-read switch ident (h .0) v (h .1)
+block-is (echo switch n ident) h =
+    let o = h .1 in
+    echo-read switch ident (h .0) n (o .six) (record {
+      axes = o .noTravel;
+      six = o .noStatus;
+      echo = sym (echo-taken n (o .noTravel) (o .noStatus)) ∙ o .taken;
+    })
+block-is (placed switch k z ident) h = place-read switch ident (h .0) k z (h .1 .0) (h .1 .1)
+block-is (inputs switch w ident) h = inputs-read switch ident (h .0) w (h .1)
+
+says-read : (s : List ℕ) (f : Figures) → Says s f → readOf s ≡ f
+says-read s f b = ap readOf (sym (b .bytes)) ∙ block-is f (b .fits)
+
+others : (s : List ℕ) → ((f : Figures) → Says s f → ⊥) → readOf s ≡ refused 20
+others s none = when (readOf s) (only-blocks s)
+  where
+    when : (f : Figures) → Spelt s f → f ≡ refused 20
+    when (refused n) t = ap refused t
+    when (verdict switch n ident) t = absurd (none _ t)
+    when (travelled switch k minus d ident) t = absurd (none _ t)
+    when (status switch v ident) t = absurd (none _ t)
+    when (echo switch n ident) t = absurd (none _ t)
+    when (placed switch k z ident) t = absurd (none _ t)
+    when (inputs switch w ident) t = absurd (none _ t)
+
+pub blocks-read : BlocksRead
+blocks-read = record {
+  read = says-read;
+  only = only-blocks;
+  without = λ s e f b. subst InRange (sym (says-read s f b) ∙ e) (b .fits);
+  others = others;
+}

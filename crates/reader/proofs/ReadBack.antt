@@ -5,7 +5,7 @@ use native.Mathlib.Omega.{arith}
 use mathlib.Core.Bool.{Bool, true, false, cond, _&&_, _||_}
 use mathlib.Core.List.{List, [], _∷_, append-assoc, append-nil}
 use mathlib.Core.Path.{_≡_, refl}
-use borrow.Author.Tests.{le-leb, lt-leb, ne-eqb, eqb-false}
+use borrow.Author.Tests.{eqb-false}
 use lib.Dec.{ltb, eqb, lit<, lit≤}
 use lib.ListN.{length}
 use Rattle.laws.specs.Axes.{some}
@@ -37,13 +37,23 @@ use Rattle.machine.specs.Steps.{
   outcomeOf,
   outcome,
   answered,
-  byteStep,
 }
-use Rattle.machine.specs.Calls.{Call, state}
+use Rattle.machine.specs.Calls.{state}
 use Rattle.machine.proofs.FitLaws.{Fits, fits}
 use Rattle.host.specs.Writer.{identFits}
-use Rattle.reader.specs.Reader.{Figures, verdict, echo, isVerdict, readOf}
-use Rattle.reader.specs.ReadBack.{travelIn, positionIn, statusIn, inputsIn, saidTo, saidOf, joined, ReadsAs}
+use Rattle.reader.specs.Reader.{Figures, verdict, echo, readOf}
+use Rattle.reader.specs.Blocks.{Framed, VerdictFits}
+use Rattle.reader.specs.ReadBack.{
+  travelIn,
+  positionIn,
+  statusIn,
+  inputsIn,
+  saidTo,
+  saidOf,
+  joined,
+  ReadsAs,
+  RepliesRead,
+}
 use Rattle.reader.proofs.BlockLaws.{
   EchoFits,
   verdict-read,
@@ -67,20 +77,12 @@ one-read {bytes} e = record { blocks = bytes ∷ []; whole = append-nil bytes; r
 -- ---- numbers of U
 
 -- 4 to 17, with the identification that a turned-away line is answered with.
-verdict-is : (n : ℕ) (ident : Ident) → 4 ≤ n → n ≤ 17 → isVerdict n (refusalIdent n ident) ≡ true
-verdict-is n ident h k =
-    by-lt (λ (i : Ident). isVerdict n i ≡ true) n 8 Absent ident early late
+refusal-fits : (n : ℕ) (ident : Ident) → 4 ≤ n → n ≤ 17 → VerdictFits n (refusalIdent n ident)
+refusal-fits n ident h k _ = record { low = h; high = k; own = own (ltb n 8) }
   where
-    above : (n ≡ 0 → ⊥)
-    above e = omega arith
-
-    early : n < 8 → isVerdict n Absent ≡ true
-    early q =
-        let b : n ≤ 7 = omega arith in
-        rw (ne-eqb n 0 above, lt-leb 8 n q, le-leb 4 n h, le-leb n 7 b)
-
-    late : 8 ≤ n → isVerdict n ident ≡ true
-    late q = rw (ne-eqb n 0 above, le-leb 8 n q, le-leb n 17 k)
+    own : (t : Bool) → cond t Absent (cond t Absent ident) ≡ cond t Absent ident
+    own true = refl
+    own false = refl
 
 -- A number that is 0 or from 11 to 17.
 abbrev Late : ℕ → Type 0
@@ -140,9 +142,14 @@ status-low m =
       weight-le (m .flags .sensed) 64,
     )
 
+-- Its switch, with an identification.
+framed : (m : Machine) (ident : Ident) → Kept m → identFits ident ≡ true → Framed (m .switch) ident
+framed m ident k named = record { digit = k .switch .low; other = k .switch .other; named = named }
+
 module _ (m : Machine) (f : Fits m) (k : Kept m) (ident : Ident) (named : identFits ident ≡ true) where
   zero-read : ReadsAs (blockFor (m .switch) 85 0 ident) (verdict (m .switch) 0 ident ∷ [])
-  zero-read = one-read (verdict-read (m .switch) (k .switch) ident named 0 (omega arith) refl)
+  zero-read =
+      one-read (verdict-read (m .switch) ident (framed m ident k named) 0 (omega arith) (λ no. absurd (no refl)))
 
   travel-back : (j : ℕ) → j < 5
       → readOf (blockFor (m .switch) 83 (coded j (travelDigits (m .move .plan .minus j) (travelOf m j))) ident)
@@ -150,18 +157,18 @@ module _ (m : Machine) (f : Fits m) (k : Kept m) (ident : Ident) (named : identF
   travel-back j h =
       let a = f .move .within j h in
       let b = f .move .plan j h in
-      travel-read (m .switch) (k .switch) ident named j (m .move .plan .minus j) (travelOf m j) h (omega arith)
+      travel-read (m .switch) ident (framed m ident k named) j (m .move .plan .minus j) (travelOf m j) h (omega arith)
 
   place-back : (j : ℕ) → j < 5
       → readOf (blockFor (m .switch) 115 (coded j (twenty (positionOf m j))) ident) ≡ positionIn m ident j
   place-back j h =
-      place-read (m .switch) (k .switch) ident named j (positionOf m j) h (f .places .inside j h)
+      place-read (m .switch) ident (framed m ident k named) j (positionOf m j) h (f .places .inside j h)
 
   status-back : readOf (blockFor (m .switch) 83 (coded 6 (Stops.status m)) ident) ≡ statusIn m ident
-  status-back = status-read (m .switch) (k .switch) ident named (Stops.status m) (status-low m)
+  status-back = status-read (m .switch) ident (framed m ident k named) (Stops.status m) (status-low m)
 
   inputs-back : readOf (blockFor (m .switch) 82 (m .inputs) ident) ≡ inputsIn m ident
-  inputs-back = inputs-read (m .switch) (k .switch) ident named (m .inputs) (k .inputs)
+  inputs-back = inputs-read (m .switch) ident (framed m ident k named) (m .inputs) (k .inputs)
 
   -- The block of a letter and digits.
   abbrev block : ℕ → ℕ → List ℕ
@@ -197,7 +204,7 @@ module _ (m : Machine) (f : Fits m) (k : Kept m) (ident : Ident) (named : identF
   }
 
   echo-back : (n : ℕ) → n < 16777216 → EchoFits n → ReadsAs (block 83 n) (echo (m .switch) n ident ∷ [])
-  echo-back n low e = one-read (echo-read (m .switch) (k .switch) ident named n low e)
+  echo-back n low e = one-read (echo-read (m .switch) ident (framed m ident k named) n low e)
 
   -- The reply to an accepted command.
   pub reply-reads : (c : Command) (n : ℕ) → CommandFits c → n < 16777216 → Echoed c n
@@ -228,7 +235,8 @@ pub refusal-reads : (m : Machine) (n : ℕ) (ident : Ident) → Kept m → 4 ≤
     → ReadsAs (refusal m n ident) (verdict (m .switch) n (refusalIdent n ident) ∷ [])
 unfolding refusalOf
 refusal-reads m n ident k h l e =
-    one-read (verdict-read (m .switch) (k .switch) (refusalIdent n ident) e n (omega arith) (verdict-is n ident h l))
+    one-read (verdict-read (m .switch) (refusalIdent n ident) (framed m (refusalIdent n ident) k e) n (omega arith)
+    (refusal-fits n ident h l))
 
 -- ---- bytes
 
@@ -265,8 +273,7 @@ heard-said m b f k =
     (λ _. none-read)
 
 -- Any controller that calls made from power-on, any byte and any buffer: the reply is read back whole.
-pub replies-read : (s : ℕ) (h : List Call) (b : ℕ) (buffer : List ℕ)
-    → ReadsAs (byteStep (state s h) b buffer .reply) (saidOf (state s h) (outcome (state s h) b buffer))
+pub replies-read : RepliesRead
 replies-read s h b buffer =
     let m = state s h in
     by-bool (Said m b) (ltb (length buffer) 120) untaken (outcomeOf m (receive (m .line) b .heard))

@@ -13,7 +13,7 @@ use Rattle.digits.specs.declared.Digit.{Digit}
 use Rattle.digits.specs.declared.Number.{Number}
 use Rattle.digits.specs.declared.Ident.{Ident}
 use Rattle.host.specs.Writer.{identFits}
-use Rattle.reader.specs.Reader.{Figures, refused, onlyIf, signed, switchIn, identIn, sixIn, isVerdict, readOf}
+use Rattle.reader.specs.Reader.{Figures, refused, onlyIf, signed, switchIn, identIn, sixIn, readOf}
 
 -- ---- a test that a callee answered: b is its answer, t what it is said to be
 
@@ -24,15 +24,6 @@ pub passed : {b t : Bool} {g f : Figures} → b ≡ t → not b ≡ false → g 
 passed {b} e h p = rw (← e, not-false b h) p
 
 -- ---- numbers
-
--- A number over 17 is none of a line.
-pub number-over : (n : ℕ) (ident : Ident) → 17 < n → isVerdict n ident ≡ false
-number-over n ident h =
-    let no : (n ≡ 0 → ⊥) = λ e. omega arith in
-    let a : 8 ≤ n = omega arith in
-    let b : 4 ≤ n = omega arith in
-    let d : 7 < n = omega arith in
-    rw (ne-eqb n 0 no, le-leb 8 n a, lt-leb n 17 h, le-leb 4 n b, lt-leb n 7 d)
 
 -- Five digits, held with 524,288 added, are the position that they are in two's complement.
 pub held-signed : (v : ℕ) → v < 1048576 → pos ((v + 524288) % 1048576) +ℤ negsuc 524287 ≡ signed v

@@ -1,5 +1,6 @@
--- What the replies of a controller are made from (paper 01, "Lines", Replies), block by block, as the reader is to give
--- it back. The round trip of replies is stated in these terms: proofs/ReadBack.antt, `replies-read`.
+-- The round trip of replies (demand 2): the host side "reads every reply back to the figures it was made from". What
+-- the replies of a controller are made from (paper 01, "Lines", Replies), block by block, and `RepliesRead`, a promise
+-- of `read_block`.
 use Prim.Native.Nat.{ℕ}
 use mathlib.Core.Bool.{cond}
 use mathlib.Core.List.{List, [], _∷_, _++_, map}
@@ -11,7 +12,8 @@ use Rattle.reply.specs.Reply.{refusalIdent}
 use Rattle.machine.specs.State.{Machine}
 use Rattle.machine.specs.Stops as Stops
 use Rattle.machine.specs.Replies.{travelOf, positionOf}
-use Rattle.machine.specs.Steps.{Outcome, untaken, gathered, refused, accepted}
+use Rattle.machine.specs.Steps.{Outcome, untaken, gathered, refused, accepted, outcome, byteStep}
+use Rattle.machine.specs.Calls.{Call, state}
 use Rattle.reader.specs.Reader.{Figures, verdict, travelled, status, echo, placed, inputs, readOf}
 
 -- An axis's travel with the latest move's direction, its position; the status; the last tick's inputs.
@@ -71,3 +73,9 @@ pub record ReadsAs (bytes : List ℕ) (figures : List Figures) : Type 0 where
   pub blocks : List (List ℕ)
   pub whole : joined blocks ≡ bytes
   pub read : map readOf blocks ≡ figures
+
+-- Any controller that calls made from power-on, any byte and any buffer: the reply is read back whole.
+abbrev pub RepliesRead : Type 0
+RepliesRead =
+    (s : ℕ) (h : List Call) (b : ℕ) (buffer : List ℕ)
+    → ReadsAs (byteStep (state s h) b buffer .reply) (saidOf (state s h) (outcome (state s h) b buffer))

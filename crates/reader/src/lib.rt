@@ -1,6 +1,8 @@
 // The host's reader of one reply block (paper 01, "Lines", Replies; "Turned away" 20).
 // Every public function is total: it has no premise and states its result for every input. Assumes nothing.
 ghost use mathlib.Core.Path.{_≡_};
+ghost use Rattle.reader.specs.Blocks.{BlocksRead};
+ghost use Rattle.reader.specs.ReadBack.{RepliesRead};
 ghost use Rattle.reader.specs.Reader.{figuresOf, digitsIn, switchIn, identIn, readOf};
 use digits::Digit;
 use digits::Ident;
@@ -101,9 +103,12 @@ fn ident_in(s: &[u8]) -> Ident
     Ident::Absent
 }
 
-// The bytes as one whole reply block, or 20.
+// The bytes as one whole reply block, or 20. That every reply of a controller is read back to the figures it was made
+// from, and that 20 is exactly for bytes that are no block, stand here as promises.
 pub fn read_block(s: &[u8]) -> Reading
     ensures { λ r. ⌜ figuresOf r ≡ readOf (now (s .entry)) ⌝ }
+    ensures { λ _. ⌜ RepliesRead ⌝ }
+    ensures { λ _. ⌜ BlocksRead ⌝ }
 {
     let n = s.len();
     if n < 9 {

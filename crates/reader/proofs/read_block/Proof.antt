@@ -1,16 +1,17 @@
--- The block, test by test. Assumes nothing.
+-- The block, test by test; what the reader promises of every row of bytes is in Promises. Assumes nothing.
 use borrow.Author.Needs.{needs}
 use native.Mathlib.Omega.{arith}
 use denote.Ref.{now}
 use Rattle.reader.proofs.ReadLaws.{too-short, too-long, no-end, no-ident, then-read}
+use Rattle.reader.proofs.Promises.{promised}
 use Rattle.reader.proofs.read_block.Statement.{statement}
 use Rattle.reader.proofs.read_block.Tie as tie
 
 returns : tie.Need-returns
-returns c = too-short (now (c .before .before .args .s)) (omega arith)
+returns c = promised (too-short (now (c .before .before .args .s)) (omega arith))
 
 returns-2 : tie.Need-returns-2
-returns-2 c = too-long (now (c .before .before .before .args .s)) (omega arith)
+returns-2 c = promised (too-long (now (c .before .before .before .args .s)) (omega arith))
 
 sub-if3 : tie.Need-sub-if3
 sub-if3 c = search needs
@@ -21,7 +22,7 @@ shared-slice-read-if3 c = search needs
 returns-3 : tie.Need-returns-3
 returns-3 c =
     let a = c .before .before .before .before .before .args in
-    no-end (now (a .s)) (omega arith) (omega arith) (c .if3 .taken)
+    promised (no-end (now (a .s)) (omega arith) (omega arith) (c .if3 .taken))
 
 ident-in-requires : tie.Need-ident-in-requires
 ident-in-requires c κs = search needs
@@ -33,8 +34,8 @@ returns-4 : tie.Need-returns-4
 returns-4 c =
     let e = c .before .before .before in
     let a = e .before .before .before .before .before .args in
-    no-ident (now (a .s)) (omega arith) (omega arith) (e .if3 .left)
-    (c .before .before .ident-in .ensures) (c .before .is-ident .ensures) (c .if4 .taken)
+    promised (no-ident (now (a .s)) (omega arith) (omega arith) (e .if3 .left)
+    (c .before .before .ident-in .ensures) (c .before .is-ident .ensures) (c .if4 .taken))
 
 shared-slice-read-read-digit : tie.Need-shared-slice-read-read-digit
 shared-slice-read-read-digit c = search needs
@@ -75,9 +76,10 @@ returns-5 c =
     let d = c .before .before .before .before .before .before .before .before .before .read-digit in
     let i = c .before .before .before .before .before .before .before .before .before .before .before in
     let e = i .before .before .before in
-    then-read (now (e .before .before .before .before .before .args .s)) (omega arith) (omega arith) (e .if3 .left)
+    let a = e .before .before .before .before .before .args in
+    promised (then-read (now (a .s)) (omega arith) (omega arith) (e .if3 .left)
     (i .before .before .ident-in .ensures) (i .before .is-ident .ensures) (i .if4 .left)
-    (d .ensures) (n .ensures) (c .switch-in .ensures)
+    (d .ensures) (n .ensures) (c .switch-in .ensures))
 
 pub read-block-spec : {M : Type 1} → statement M
 read-block-spec =
