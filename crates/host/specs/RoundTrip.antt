@@ -118,10 +118,12 @@ pub record Asked (r : Request) : Type 0 where
 -- Whatever line the controller accepts, the writer writes its request, and that line is heard as the same request.
 -- So 19 is exactly for values without a line.
 pub record LineBack : Type 0 where
+  -- any characters that are judged as a command
   pub has : (cs : List ℕ) (c : Command) (digits : ℕ) → judgeOf cs ≡ Accepted c digits
       → hasLine (requestIn cs c) ≡ true
   pub same : (cs : List ℕ) (c : Command) (digits : ℕ) → judgeOf cs ≡ Accepted c digits
       → heardAll [] (lineOf (requestIn cs c))
       ≡ endedAfter (length (lineOf (requestIn cs c)) - 1) (heardAs (requestIn cs c) (digitsOf c))
+  -- 19 where no line asks for the value, and nowhere else
   pub without : (r : Request) (d : List ℕ) → writtenOf r d ≡ refused 19 → Asked r → ⊥
   pub only : (r : Request) (d : List ℕ) → 10 ≤ length d → (Asked r → ⊥) → writtenOf r d ≡ refused 19

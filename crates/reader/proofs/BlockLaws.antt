@@ -1,12 +1,12 @@
 -- Each form of a reply block, read back: what the reader gives is what the block was made from. Assumes nothing.
 use Prim.Native.Nat.{ℕ, _+_, _-_, _/_, _%_, _≤_, _<_}
 use native.Mathlib.Omega.{arith}
-use mathlib.Core.Bool.{Bool, true, false, cond, not, _&&_, _||_, false≢true}
+use mathlib.Core.Bool.{Bool, true, false, cond, not, false≢true}
 use mathlib.Core.Path.{_≡_, refl, sym, ap, _∙_}
 use borrow.Author.Tests.{lt-ltb, le-ltb, le-leb, lt-leb, ne-eqb, ltb-true, ltb-false, eqb-true, eqb-false}
 use lib.Dec.{ltb, leb, eqb}
 use lib.IntN.{ℤ, pos, negsuc}
-use Rattle.laws.proofs.Pick.{by-lt, by-eq}
+use Rattle.laws.proofs.Pick.{by-bool, by-lt, by-eq}
 use Rattle.digits.specs.Digits.{sixOf}
 use Rattle.digits.specs.declared.Ident.{Ident}
 use Rattle.digits.specs.declared.Ident.the-variants.{Absent, Given}
@@ -20,7 +20,7 @@ use Rattle.line.specs.Line.{code, five, second, isWithin, inputBits, isMaster, 
 use Rattle.reply.specs.Reply.{coded, blockFor, travelDigits, twenty}
 use Rattle.machine.specs.Starts.{outside}
 use Rattle.host.specs.Writer.{isAbsent}
-use Rattle.host.proofs.Ranges.{both, within}
+use Rattle.host.proofs.Ranges.{within}
 use Rattle.reader.specs.Reader.{
   verdict,
   travelled,
@@ -43,10 +43,6 @@ pub record EchoFits (n : ℕ) : Type 0 where
   pub echo : isEcho n ≡ true
 
 -- ---- tests and ranges
-
-pub by-or : {P : Type 0} (a b : Bool) → (a || b) ≡ true → (a ≡ true → P) → (b ≡ true → P) → P
-by-or true b e p q = p refl
-by-or false b e p q = q e
 
 absent-is : (ident : Ident) → isAbsent ident ≡ true → ident ≡ Absent
 absent-is Absent e = refl
@@ -77,10 +73,13 @@ is-verdict n ident f = when (eqb n 0) refl
 
 pub verdict-fits : (n : ℕ) (ident : Ident) → isVerdict n ident ≡ true → VerdictFits n ident
 verdict-fits n ident e above =
-    by-or (eqb n 0 || isWithin n 8 17) (isWithin n 4 7 && isAbsent ident) e
-    (λ p. by-or (eqb n 0) (isWithin n 8 17) p (λ z. absurd (above (eqb-true n 0 z))) late)
-    early
+    by-bool If (eqb n 0) true _ (λ z _. absurd (above (eqb-true n 0 z)))
+    (λ _. by-bool If (isWithin n 8 17) true _ (λ q _. late q)
+    (λ _. by-bool If (isWithin n 4 7) (isAbsent ident) false early (λ _ f. absurd (false≢true f)))) e
   where
+    If : Bool → Type 0
+    If t = t ≡ true → Turned n ident
+
     late : isWithin n 8 17 ≡ true → Turned n ident
     late q =
         let w = within n 8 17 q in
@@ -88,14 +87,13 @@ verdict-fits n ident e above =
         let h = w .1 in
         record { low = omega arith; high = omega arith; own = rw (le-ltb n 8 l) }
 
-    early : (isWithin n 4 7 && isAbsent ident) ≡ true → Turned n ident
-    early q =
-        let b = both (isWithin n 4 7) (isAbsent ident) q in
-        let w = within n 4 7 (b .0) in
+    early : isWithin n 4 7 ≡ true → isAbsent ident ≡ true → Turned n ident
+    early q none =
+        let w = within n 4 7 q in
         let l = w .0 in
         let h = w .1 in
         let m : n < 8 = omega arith in
-        record { low = omega arith; high = omega arith; own = rw (lt-ltb n 8 m) (sym (absent-is ident (b .1))) }
+        record { low = omega arith; high = omega arith; own = rw (lt-ltb n 8 m) (sym (absent-is ident none)) }
 
 -- A number over 17 is none.
 pub number-over : (n : ℕ) (ident : Ident) → 17 < n → isVerdict n ident ≡ false

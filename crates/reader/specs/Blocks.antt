@@ -37,9 +37,11 @@ pub record Turned (n : ℕ) (ident : Ident) : Type 0 where
   pub high : n ≤ 17
   pub own : refusalIdent n ident ≡ ident
 
+-- Where the number is not 0.
 abbrev pub VerdictFits : ℕ → Ident → Type 0
 VerdictFits n ident = (n ≡ 0 → ⊥) → Turned n ident
 
+-- A line that no number turns away.
 abbrev pub isAccepted : Judged → Bool
 isAccepted (Accepted c n) = true
 isAccepted (Refused n) = false

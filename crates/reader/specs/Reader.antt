@@ -55,7 +55,11 @@ onlyIf holds figures = cond holds figures (refused 20)
 
 -- U: 000000 or 0000nn, nn 8 to 17, or 4 to 7 with no identification.
 abbrev pub isVerdict : ℕ → Ident → Bool
-isVerdict n ident = eqb n 0 || isWithin n 8 17 || (isWithin n 4 7 && isAbsent ident)
+isVerdict n ident =
+    cond (eqb n 0) true
+    (cond (isWithin n 8 17) true
+    (cond (isWithin n 4 7) (isAbsent ident)
+    false))
 
 abbrev pub verdictIn : ℕ → ℕ → Ident → Figures
 verdictIn switch n ident = onlyIf (isVerdict n ident) (verdict switch n ident)
