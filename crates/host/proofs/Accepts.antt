@@ -9,9 +9,9 @@ use lib.Dec.{eqb}
 use Rattle.line.specs.declared.Command.{Command}
 use Rattle.line.specs.declared.Command.the-variants as C
 use Rattle.line.specs.declared.Judged.the-variants.{Accepted}
-use Rattle.line.specs.Line.{judgeForm, judgeValue, inputBits}
+use Rattle.line.specs.Line.{isQuery, judgeForm, judgeValue, inputBits}
 use Rattle.line.specs.Fits.{CommandFits}
-use Rattle.host.specs.Writer.{letterOf, digitsOf, isQuery}
+use Rattle.host.specs.Writer.{letterOf, digitsOf}
 
 -- A command with its letter and six digits, judged.
 abbrev Taken : Command → Type 0

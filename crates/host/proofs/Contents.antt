@@ -6,7 +6,8 @@ use native.Mathlib.Omega.{arith}
 use Rattle.line.specs.declared.Command.{Command}
 use Rattle.host.specs.declared.content.Content.{Content}
 use Rattle.host.specs.declared.content.Content.the-variants.{Nothing, Query, Digits}
-use Rattle.host.specs.Writer.{letterOf, digitsOf, inRange, isQuery, contentOf}
+use Rattle.line.specs.Line.{isQuery}
+use Rattle.host.specs.Writer.{letterOf, digitsOf, inRange, contentOf}
 
 pub same-digits : (letter : ℕ) {a b : ℕ} → a ≡ b → Digits letter a ≡ Digits letter b
 same-digits letter e = ap (Digits letter) e

@@ -19,7 +19,7 @@ use Rattle.machine.specs.State.{Machine, withLine, withWatch}
 use Rattle.machine.specs.Commands.{number, does, turned, stores}
 use Rattle.machine.specs.Replies.{replyTo, refusal, unlessSilent}
 use Rattle.machine.specs.Steps.{Outcome, untaken, refused, accepted, outcomeOf, ByteAnswer, answered, byteStep}
-use Rattle.machine.specs.Calls.{Call, byte, state}
+use Rattle.machine.specs.Calls.{Call, byte, run, state}
 use Rattle.host.specs.declared.Request.{Request}
 use Rattle.host.specs.Writer.{digitsOf, hasLine, lineOf}
 use Rattle.host.specs.RoundTrip.{answersTo, leftBy, callsOf, gathers, heardAs, answerTo, Obeys}
@@ -202,6 +202,6 @@ machine-trip m r lent none e room =
 -- In a list of calls the bytes leave the same machine.
 pub calls-left : (s : ℕ) (lent : ℕ → List ℕ) (bs : List ℕ) (h : List Call)
     → state s (callsOf lent bs h) ≡ leftBy (state s h) lent bs
-unfolding state
+unfolding run
 calls-left s lent [] h = refl
 calls-left s lent (b ∷ bs) h = calls-left s (λ i. lent (suc i)) bs (byte b (lent 0) ∷ h)

@@ -20,7 +20,7 @@ use Rattle.block.proofs.Buffers.{front-over}
 use Rattle.line.specs.declared.Command.{Command}
 use Rattle.line.specs.declared.Command.the-variants as C
 use Rattle.line.specs.declared.Judged.the-variants.{Accepted}
-use Rattle.line.specs.Line.{isLetter, isIdent, judgeForm, judgeValue, judgeOf}
+use Rattle.line.specs.Line.{isQuery, isLetter, isIdent, judgeForm, judgeValue, judgeOf}
 use Rattle.line.specs.Fits.{CommandFits}
 use Rattle.receiver.specs.declared.Heard.{Heard}
 use Rattle.receiver.specs.declared.Heard.the-variants.{Character, Line}
@@ -30,7 +30,6 @@ use Rattle.host.specs.Writer.{
   letterOf,
   digitsOf,
   inRange,
-  isQuery,
   identFits,
   isAbsent,
   hasLine,

@@ -15,10 +15,10 @@ use Rattle.block.proofs.Blocks.{block-most}
 use Rattle.block.proofs.Buffers.{stores, laid-over, laid-over-length}
 use Rattle.host.specs.declared.Request.{Request}
 use Rattle.host.specs.declared.content.Content.the-variants.{Nothing, Query, Digits}
+use Rattle.line.specs.Line.{isQuery}
 use Rattle.host.specs.Writer.{
   letterOf,
   digitsOf,
-  isQuery,
   identFits,
   isAbsent,
   hasLine,

@@ -10,7 +10,7 @@ use Rattle.digits.specs.Digits.{digitOf, capitalOf}
 use Rattle.digits.specs.declared.Ident.{Ident}
 use Rattle.digits.specs.declared.Ident.the-variants.{Absent, Given}
 use Rattle.block.specs.Block.{blockOf, over}
-use Rattle.line.specs.Line.{isWithin, inputBits, isIdent}
+use Rattle.line.specs.Line.{isWithin, inputBits, isIdent, isQuery}
 use Rattle.line.specs.declared.Command.{Command}
 use Rattle.line.specs.declared.Command.the-variants as C
 use Rattle.host.specs.declared.Request.{Request}
@@ -89,27 +89,6 @@ inRange (C.Position k) = ltb k 5
 inRange C.Everything = true
 inRange C.Inputs = true
 inRange (C.Outputs v) = ltb v 16777216
-
--- A W query: W with no digits.
-abbrev pub isQuery : Command → Bool
-isQuery (C.Distance k minus d) = false
-isQuery (C.Speed v) = false
-isQuery (C.Slope v) = false
-isQuery (C.Dwell v) = false
-isQuery (C.Watch v) = false
-isQuery (C.Polarity v) = false
-isQuery (C.Travel k) = false
-isQuery C.Status = false
-isQuery (C.Start k waits) = false
-isQuery C.Stop = false
-isQuery C.ClearWrongMaster = false
-isQuery C.ResetPositions = false
-isQuery (C.LowOn v) = false
-isQuery (C.HighOn v) = false
-isQuery (C.Position k) = false
-isQuery C.Everything = false
-isQuery C.Inputs = true
-isQuery (C.Outputs v) = false
 
 -- An identification is absent, or a character 0-9 or A-F.
 abbrev pub identFits : Ident → Bool

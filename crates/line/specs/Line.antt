@@ -215,6 +215,27 @@ commandOf (F.PositionForm k) count n = C.Position k
 commandOf F.EverythingForm count n = C.Everything
 commandOf F.OutputsForm count n = cond (eqb count 0) C.Inputs (C.Outputs n)
 
+-- A W query: W with no digits.
+abbrev pub isQuery : Command → Bool
+isQuery (C.Distance k minus d) = false
+isQuery (C.Speed v) = false
+isQuery (C.Slope v) = false
+isQuery (C.Dwell v) = false
+isQuery (C.Watch v) = false
+isQuery (C.Polarity v) = false
+isQuery (C.Travel k) = false
+isQuery C.Status = false
+isQuery (C.Start k waits) = false
+isQuery C.Stop = false
+isQuery C.ClearWrongMaster = false
+isQuery C.ResetPositions = false
+isQuery (C.LowOn v) = false
+isQuery (C.HighOn v) = false
+isQuery (C.Position k) = false
+isQuery C.Everything = false
+isQuery C.Inputs = true
+isQuery (C.Outputs v) = false
+
 -- ---- Turned away, in checking order: the first rule that applies gives the number.
 
 -- The number if its rule applies, else the rest of the list.

@@ -14,7 +14,6 @@ use Rattle.digits.proofs.Laws.{digit-capital, six-number}
 use Rattle.block.specs.Block.{blockOf}
 use Rattle.line.specs.declared.Command.{Command}
 use Rattle.line.specs.declared.Command.the-variants as C
-use Rattle.line.specs.declared.form.Form.{Form}
 use Rattle.line.specs.declared.Judged.the-variants.{Accepted, Refused}
 use Rattle.line.specs.Line.{code, five, second, isWithin, inputBits, isMaster, formQ, judgeForm, judgeValue}
 use Rattle.reply.specs.Reply.{coded, blockFor, travelDigits, twenty}
@@ -130,20 +129,17 @@ module _ (n : ℕ) where
   unfolding judgeForm
   echo-with k h six =
       rw (le-ltb k 5 h, ne-eqb k 6 six)
-      (by-eq Told k 8 _ _
+      (by-eq (λ f. isAccepted (judgeForm f 6 n) ≡ echoWith k) k 8 _ _
       (λ e. rw e (accepted-if (isMaster (second n)) (C.Start (second n % 8) (leb 8 (second n)))))
-      λ a. by-eq Told k 9 _ _ (λ e. rw e)
-      λ b. by-eq Told k 10 _ _ (λ e. rw e)
-      λ c. by-eq Told k 11 _ _ (λ e. rw e)
-      λ d. by-eq Told k 13 _ _
+      λ a. by-eq (λ f. isAccepted (judgeForm f 6 n) ≡ echoWith k) k 9 _ _ (λ e. rw e)
+      λ b. by-eq (λ f. isAccepted (judgeForm f 6 n) ≡ echoWith k) k 10 _ _ (λ e. rw e)
+      λ c. by-eq (λ f. isAccepted (judgeForm f 6 n) ≡ echoWith k) k 11 _ _ (λ e. rw e)
+      λ d. by-eq (λ f. isAccepted (judgeForm f 6 n) ≡ echoWith k) k 13 _ _
       (λ e. rw e (accepted-if (inputBits (five n)) (C.LowOn (five n))))
-      λ g. by-eq Told k 14 _ _
+      λ g. by-eq (λ f. isAccepted (judgeForm f 6 n) ≡ echoWith k) k 14 _ _
       (λ e. rw e (accepted-if (inputBits (five n)) (C.HighOn (five n))))
       λ i. rw (ne-eqb k 8 a, outside-test k 9 11 (between b c d), outside-test k 13 14 (ends g i)))
     where
-      Told : Form → Type 0
-      Told f = isAccepted (judgeForm f 6 n) ≡ echoWith k
-
       between : (k ≡ 9 → ⊥) → (k ≡ 10 → ⊥) → (k ≡ 11 → ⊥) → 9 ≤ k → k ≤ 11 → ⊥
       between b c d l m = omega arith
 

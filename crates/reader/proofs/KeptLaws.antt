@@ -37,7 +37,7 @@ use Rattle.machine.specs.Steps.{
   tooLarge,
   tickStep,
 }
-use Rattle.machine.specs.Calls.{Call, byte, tick, after, state}
+use Rattle.machine.specs.Calls.{Call, byte, tick, after, run, state}
 
 -- One digit, and not C.
 pub record SwitchFits (switch : ℕ) : Type 0 where
@@ -164,6 +164,6 @@ kept-after m (tick w) k = kept-tick m w k
 
 -- Every machine that calls make from power-on.
 pub kept : (s : ℕ) (h : List Call) → Kept (state s h)
-unfolding state
+unfolding run
 kept s [] = kept-power s
 kept s (x ∷ h) = kept-after (state s h) x (kept s h)

@@ -11,28 +11,15 @@ use Rattle.digits.specs.declared.Ident.{Ident}
 use Rattle.digits.specs.declared.Ident.the-variants.{Absent}
 use Rattle.line.specs.declared.Command.{Command}
 use Rattle.line.specs.declared.Command.the-variants as C
-use Rattle.line.specs.declared.form.Form.{Form}
-use Rattle.line.specs.declared.form.Form.the-variants as F
 use Rattle.line.specs.declared.Judged.{Judged}
 use Rattle.line.specs.declared.Judged.the-variants.{Accepted, Refused}
-use Rattle.line.specs.Line.{
-  charAt,
-  valueOf,
-  identOf,
-  digitCount,
-  digitChars,
-  code,
-  formP,
-  formQ,
-  formq,
-  formOf,
-  inRange,
-  commandOf,
-  judgeOf,
-}
+use Rattle.line.specs.Line.{charAt, valueOf, identOf, digitCount, digitChars, code, formOf, judgeOf}
+use Rattle.line.specs.Fits.{OrderFits, JudgedFits}
+use Rattle.line.proofs.Fits.{judge-fits}
+use Rattle.line.proofs.Cases.{by-form, by-judge}
 use Rattle.reply.specs.Reply.{refusalIdent}
 use Rattle.host.specs.Writer.{identFits}
-use Rattle.host.proofs.JudgeLaws.{by-form, by-judge}
+use Rattle.host.proofs.JudgeLaws.{ident-fits}
 use Rattle.reader.specs.Reader.{isEcho}
 use Rattle.reader.proofs.BlockLaws.{EchoFits}
 
@@ -40,63 +27,6 @@ always : 0 < 1
 always = omega arith
 
 -- ---- an order's digits
-
--- The code of a row that is echoed.
-abbrev Coded : ℕ → Form → Type 0
-Coded k F.Unlisted = 0 < 1
-Coded k (F.DistanceForm j) = 0 < 1
-Coded k F.SpeedForm = 0 < 1
-Coded k F.SlopeForm = 0 < 1
-Coded k F.DwellForm = 0 < 1
-Coded k F.WatchForm = 0 < 1
-Coded k F.PolarityForm = 0 < 1
-Coded k (F.TravelForm j) = 0 < 1
-Coded k F.StatusForm = 0 < 1
-Coded k F.StartForm = k ≡ 8
-Coded k F.StopForm = k ≡ 9
-Coded k F.ClearForm = k ≡ 10
-Coded k F.ResetForm = k ≡ 11
-Coded k F.LowOnForm = k ≡ 13
-Coded k F.HighOnForm = k ≡ 14
-Coded k (F.PositionForm j) = 0 < 1
-Coded k F.EverythingForm = 0 < 1
-Coded k F.OutputsForm = 0 < 1
-
-coded-p : (k : ℕ) → Coded k (formP k)
-coded-p k =
-    by-lt (Coded k) k 5 _ _ (λ _. always)
-    λ _. by-eq (Coded k) k 8 _ _ (λ _. always)
-    λ _. by-eq (Coded k) k 9 _ _ (λ _. always)
-    λ _. by-eq (Coded k) k 10 _ _ (λ _. always)
-    λ _. by-eq (Coded k) k 11 _ _ (λ _. always)
-    λ _. by-eq (Coded k) k 12 _ _ (λ _. always)
-    λ _. always
-
-coded-q : (k : ℕ) → Coded k (formQ k)
-coded-q k =
-    by-lt (Coded k) k 5 _ _ (λ _. always)
-    λ _. by-eq (Coded k) k 6 _ _ (λ _. always)
-    λ _. by-eq (Coded k) k 8 _ _ (λ e. e)
-    λ _. by-eq (Coded k) k 9 _ _ (λ e. e)
-    λ _. by-eq (Coded k) k 10 _ _ (λ e. e)
-    λ _. by-eq (Coded k) k 11 _ _ (λ e. e)
-    λ _. by-eq (Coded k) k 13 _ _ (λ e. e)
-    λ _. by-eq (Coded k) k 14 _ _ (λ e. e)
-    λ _. always
-
-coded-small : (k : ℕ) → Coded k (formq k)
-coded-small k =
-    by-lt (Coded k) k 5 _ _ (λ _. always)
-    λ _. by-eq (Coded k) k 8 _ _ (λ _. always)
-    λ _. always
-
-form-coded : (letter count k : ℕ) → Coded k (formOf letter count k)
-form-coded letter count k =
-    by-eq (Coded k) letter 87 _ _ (λ _. always)
-    λ _. by-eq (Coded k) count 0 _ _ (λ _. always)
-    λ _. by-eq (Coded k) letter 80 _ _ (λ _. coded-p k)
-    λ _. by-eq (Coded k) letter 81 _ _ (λ _. coded-q k)
-    λ _. coded-small k
 
 -- The digits of a command that is echoed.
 abbrev pub Echoed : Command → ℕ → Type 0
@@ -122,25 +52,25 @@ Echoed (C.Outputs v) n = 0 < 1
 echo-of : (n k : ℕ) → code n ≡ k → 5 ≤ k → (k ≡ 6 → ⊥) → isEcho n ≡ true → EchoFits n
 echo-of n k e h other t = record { axes = omega arith; six = λ q. other (sym e ∙ q); echo = t }
 
-echoed : (form : Form) (count n : ℕ) → Coded (code n) form → inRange form n ≡ true → Echoed (commandOf form count n) n
-echoed F.Unlisted count n f h = always
-echoed (F.DistanceForm k) count n f h = always
-echoed F.SpeedForm count n f h = always
-echoed F.SlopeForm count n f h = always
-echoed F.DwellForm count n f h = always
-echoed F.WatchForm count n f h = always
-echoed F.PolarityForm count n f h = always
-echoed (F.TravelForm k) count n f h = always
-echoed F.StatusForm count n f h = always
-echoed F.StartForm count n f h = echo-of n 8 f (omega arith) (λ e. omega arith) (rw f h)
-echoed F.StopForm count n f h = echo-of n 9 f (omega arith) (λ e. omega arith) (rw f)
-echoed F.ClearForm count n f h = echo-of n 10 f (omega arith) (λ e. omega arith) (rw f)
-echoed F.ResetForm count n f h = echo-of n 11 f (omega arith) (λ e. omega arith) (rw f)
-echoed F.LowOnForm count n f h = echo-of n 13 f (omega arith) (λ e. omega arith) (rw f h)
-echoed F.HighOnForm count n f h = echo-of n 14 f (omega arith) (λ e. omega arith) (rw f h)
-echoed (F.PositionForm k) count n f h = always
-echoed F.EverythingForm count n f h = always
-echoed F.OutputsForm count n f h = by-eq (λ (c : Command). Echoed c n) count 0 _ _ (λ _. always) (λ _. always)
+echoed : (c : Command) (n : ℕ) → OrderFits c n → Echoed c n
+echoed (C.Distance k minus d) n f = always
+echoed (C.Speed v) n f = always
+echoed (C.Slope v) n f = always
+echoed (C.Dwell v) n f = always
+echoed (C.Watch v) n f = always
+echoed (C.Polarity v) n f = always
+echoed (C.Travel k) n f = always
+echoed C.Status n f = always
+echoed (C.Start k waits) n f = echo-of n 8 (f .0) (omega arith) (λ e. omega arith) (rw (f .0) (f .1))
+echoed C.Stop n f = echo-of n 9 f (omega arith) (λ e. omega arith) (rw f)
+echoed C.ClearWrongMaster n f = echo-of n 10 f (omega arith) (λ e. omega arith) (rw f)
+echoed C.ResetPositions n f = echo-of n 11 f (omega arith) (λ e. omega arith) (rw f)
+echoed (C.LowOn v) n f = echo-of n 13 (f .0) (omega arith) (λ e. omega arith) (rw (f .0) (f .1))
+echoed (C.HighOn v) n f = echo-of n 14 (f .0) (omega arith) (λ e. omega arith) (rw (f .0) (f .1))
+echoed (C.Position k) n f = always
+echoed C.Everything n f = always
+echoed C.Inputs n f = always
+echoed (C.Outputs v) n f = always
 
 -- ---- the line
 
@@ -158,13 +88,25 @@ Tells ident (Refused n) = identFits (refusalIdent n ident) ≡ true
 pub named-late : (ident : Ident) (n : ℕ) → identFits ident ≡ true → identFits (refusalIdent n ident) ≡ true
 named-late ident n e = by-lt (λ (i : Ident). identFits i ≡ true) n 8 Absent ident (λ _. refl) (λ _. e)
 
--- Every line's judgement.
-pub line-tells : (cs : List ℕ) → Tells (identOf cs) (judgeOf cs)
-line-tells cs =
+-- The identification alone.
+abbrev Named : Ident → Judged → Type 0
+Named ident (Accepted c n) = identFits ident ≡ true
+Named ident (Refused n) = identFits (refusalIdent n ident) ≡ true
+
+named : (cs : List ℕ) → Named (identOf cs) (judgeOf cs)
+named cs =
     let ident = identOf cs in
     let count = digitCount cs in
     let n = valueOf (numberOf (digitChars cs)) in
-    let form = formOf (charAt cs 0) count (code n) in
-    by-judge (Tells ident) cs refl refl refl refl
-    (λ e. by-form (Tells ident) form count n (named-late ident 8 e) (named-late ident 9 e) (named-late ident 10 e)
-    (λ h. record { named = e; digits = echoed form count n (form-coded (charAt cs 0) count (code n)) h }))
+    by-judge (Named ident) cs refl refl refl refl
+    (λ e. let f = ident-fits cs e in
+    by-form (Named ident) (formOf (charAt cs 0) count (code n)) count n (named-late ident 8 f) (named-late ident 9 f)
+    (named-late ident 10 f) (λ _. f))
+
+tells : (ident : Ident) (j : Judged) → JudgedFits j → Named ident j → Tells ident j
+tells ident (Accepted c n) f e = record { named = e; digits = echoed c n (f .order) }
+tells ident (Refused n) f e = e
+
+-- Every line's judgement.
+pub line-tells : (cs : List ℕ) → Tells (identOf cs) (judgeOf cs)
+line-tells cs = tells (identOf cs) (judgeOf cs) (judge-fits cs) (named cs)

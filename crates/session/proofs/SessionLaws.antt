@@ -14,7 +14,7 @@ use Rattle.block.specs.Block.{over}
 use Rattle.block.proofs.Buffers.{stores, over-nil}
 use Rattle.machine.specs.State.{Machine}
 use Rattle.machine.specs.Steps.{powerOn, byteStep}
-use Rattle.machine.specs.Calls.{Call, byte, state}
+use Rattle.machine.specs.Calls.{Call, byte, run, state}
 use Rattle.controller.specs.declared.Controller.{Controller}
 use Rattle.controller.specs.Held.{held}
 use Rattle.controller.specs.Reach.{Reachable}
@@ -105,7 +105,7 @@ module _ (m : Machine) (d x : List ℕ) where
 pub fresh-told : (c : Controller) (k : Kept) → c ≡ held (powerOn 0) → k ≡ keeping []
     → (record { controller = c; kept = k; place = Start } ≡ heldBench fresh)
     × Running (record { controller = c; kept = k; place = Start })
-unfolding state
+unfolding run
 fresh-told c k p q = (e, record { switch = 0; history = []; place = starting; made = sym e })
   where
     e : record { controller = c; kept = k; place = Start } ≡ heldBench fresh
@@ -277,7 +277,7 @@ module _ (w : ℕ) (h : List Call) where
   }
 
   sends-lives : (b : ℕ) (p : Place) → Lives (sends (state w h) b p .bench)
-  unfolding state
+  unfolding run
   sends-lives b p = record { switch = w; history = byte b buffer ∷ h; place = p; is = refl }
 
   keeps-lives : (l : List ℕ) → Lives (keeps (state w h) l .bench)

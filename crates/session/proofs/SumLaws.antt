@@ -18,8 +18,8 @@ use Rattle.laws.proofs.Five.{five}
 use Rattle.machine.specs.State.{Machine}
 use Rattle.machine.specs.Steps.{tickStep}
 use Rattle.machine.specs.Starts.{outside}
-use Rattle.machine.specs.Calls.{Call, tick, state}
-use Rattle.machine.specs.Demand.{signed, position, latest}
+use Rattle.machine.specs.Calls.{Call, tick, run, state}
+use Rattle.machine.specs.List.{signed, position, latest}
 use Rattle.machine.proofs.DemandLaws.{demand-3}
 use Rattle.controller.specs.declared.Controller.{Controller}
 use Rattle.controller.specs.Held.{held}
@@ -107,7 +107,7 @@ past (suc n) w h = tick w ∷ past n w h
 
 module _ (s w : ℕ) (h : List Call) where
   pub past-state : (n : ℕ) → state s (past n w h) ≡ afterTicks n w (state s h)
-  unfolding state afterTicks past
+  unfolding run afterTicks past
   past-state zero = refl
   past-state (suc n) = ap (λ (m : Machine). tickStep m w .machine) (past-state n)
 
@@ -162,7 +162,7 @@ module _ (s w : ℕ) (h : List Call) where
 
   pub next-made : (r : Ran) (sums : List ℤ) (before : ℕ) → r ≡ tickedOf sums before (tickStep (state s h) w)
       → held (state s (tick w ∷ h)) ≡ r .controller
-  unfolding state
+  unfolding run
   next-made r sums before e = sym (ap (λ (x : Ran). x .controller) e)
 
   -- One tick more.

@@ -32,7 +32,7 @@ returns c =
     let a = c .before .before .before .before .before .before .before .byte in
     let w = c .before .before .before .show in
     λ s h e. sent-is (state s h) (l .args .b) (l .args .buf .now) (a .result) (a .last .1 .0) (w .last .0) (l .pre .1)
-    (a .ensures .0 s h e) (a .ensures .1 s h e) (w .ensures)
+    (a .ensures .0 s h e) (a .ensures .1 .0 s h e) (w .ensures)
 
 pub send-spec : {M : Type 1} → statement M
 send-spec = tie.close (tie.spec byte-requires show-requires same-length returns)

@@ -16,7 +16,7 @@ added-requires c κs =
     let l = c .before .before .before .before in
     let r = l .pre .0 in
     subst (λ (ps : List ℤ). Rooms (l .args .ran .sums) ps)
-    (sym (ap (λ x. x .pulses) (c .before .tick .ensures (r .switch) (r .history) (r .made))))
+    (sym (ap (λ x. x .pulses) (c .before .tick .ensures .0 (r .switch) (r .history) (r .made))))
     (rooms (r .switch) (l .args .word) (r .history) (l .args .ran .sums) (l .pre .1))
 
 later-requires : tie.Need-later-requires
@@ -27,10 +27,10 @@ returns c =
     let l = c .before .before .before .before .before .before .before in
     let a = c .before .before .before .before .tick in
     λ s h e. λ i. record {
-      controller = a .ensures s h e i .controller;
+      controller = a .ensures .0 s h e i .controller;
       sums =
-          (c .before .before .added .ensures ∙ ap (λ x. addedOf (l .args .ran .sums) (x .pulses)) (a .ensures s h e)) i;
-      number = (c .before .later .ensures ∙ ap (λ x. laterOf (l .args .ran .number) (x .number)) (a .ensures s h e)) i;
+          (c .before .before .added .ensures ∙ ap (λ x. addedOf (l .args .ran .sums) (x .pulses)) (a .ensures .0 s h e)) i;
+      number = (c .before .later .ensures ∙ ap (λ x. laterOf (l .args .ran .number) (x .number)) (a .ensures .0 s h e)) i;
     }
 
 pub ticked-spec : {M : Type 1} → statement M
