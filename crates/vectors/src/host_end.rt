@@ -1,0 +1,45 @@
+// The host end on one line of the page.
+use crate::blocks;
+use crate::form;
+use crate::settings;
+use crate::text;
+use crate::text::Text;
+use crate::writer;
+
+// The master picker.
+fn master(line: &[u8]) -> Text {
+    let distances = [
+        form::eight(line, 2),
+        form::eight(line, 11),
+        form::eight(line, 20),
+        form::eight(line, 29),
+        form::eight(line, 38),
+    ];
+    Text::new().digit(host::pick_master(distances))
+}
+
+// What a line is answered.
+pub(crate) fn answer(line: &[u8]) -> Text {
+    if form::fits(line, b"W hh f hh hh f hhhhhhhh hh") {
+        return writer::answer(line, true);
+    }
+    if form::fits(line, b"W hh f hh hh f hhhhhhhh --") {
+        return writer::answer(line, false);
+    }
+    if form::fits(line, b"M hhhhhhhh hhhhhhhh hhhhhhhh hhhhhhhh hhhhhhhh") {
+        return master(line);
+    }
+    if form::fits(line, b"F k g hhhhhhhhhhhhhh hhh") {
+        return settings::read_back(line);
+    }
+    if form::fits(line, b"U k hhhhhhhh") {
+        return settings::shown(line);
+    }
+    if form::fits(line, b"D k") {
+        return settings::all(line);
+    }
+    if form::fits(line, b"G hhhhh hhhhh") {
+        return settings::pair(line);
+    }
+    blocks::answer(line)
+}

@@ -1,0 +1,277 @@
+// Bench figures on lines `F`, `U`, `D` and `G`.
+ghost use Rattle.controller.specs.Reach.{Reachable};
+use crate::form;
+use crate::text;
+use crate::text::Text;
+use controller::Controller;
+use digits::Ident;
+use figures::Asked;
+use figures::Setting;
+use figures::Units;
+use host::Request;
+use host::Written;
+
+// The largest settings.
+const SPEED_MOST: u32 = 1000000;
+
+const SLOPE_MOST: u32 = 4095;
+
+// 2 to the 53, and what an exponent has added.
+const MOST_DIGITS: u64 = 9007199254740992;
+
+const ADDED: u32 = 2048;
+
+// The next figure above 1.
+const NEXT: f64 = 1.0000000000000002;
+
+// 4 times a figure as a whole number, and whether it is exactly that.
+struct Quarters {
+    count: u64,
+    exact: bool,
+}
+
+// Whether a line is of speeds; else it is of slopes.
+fn is_speed(line: &[u8]) -> bool {
+    if line.len() < 3 {
+        return false;
+    }
+    line[2] == b'V'
+}
+
+// The figure of n units.
+fn figure_of(speed: bool, n: u32) -> f64 {
+    if speed {
+        return figures::speed_hz(n);
+    }
+    figures::slope_hz_per_ms(n)
+}
+
+// A figure in units.
+fn units_of(speed: bool, x: f64) -> Units {
+    if speed {
+        return figures::speed_units(x);
+    }
+    figures::slope_units(x)
+}
+
+fn setting_of(speed: bool, x: f64) -> Setting {
+    if speed {
+        return Setting::Speed(x);
+    }
+    Setting::Slope(x)
+}
+
+fn quarters_of(x: f64) -> Quarters {
+    let y = x * 4.0;
+    if y > -1.0 {
+        if y < 18446744073709551616.0 {
+            let count = std::num::truncating_f64_to_u64(y);
+            let exact = std::num::nearest_u64_to_f64(count) == y;
+            return Quarters { count, exact };
+        }
+    }
+    Quarters {
+        count: 0,
+        exact: false,
+    }
+}
+
+// A figure as `U` prints it.
+fn with_figure(text: Text, x: f64) -> Text {
+    let quarters = quarters_of(x);
+    let told = text.sixteen(quarters.count).space();
+    if quarters.exact {
+        return told.with(b'=');
+    }
+    told.with(b'~')
+}
+
+// `U`: the figure of any number of units.
+pub(crate) fn shown(line: &[u8]) -> Text {
+    with_figure(Text::new(), figure_of(is_speed(line), form::eight(line, 4)))
+}
+
+// m doubled or halved step by step.
+fn scaled(m: f64, factor: f64, steps: u32) -> f64 {
+    let mut x = m;
+    let mut i = 0;
+    while i < steps {
+        x = x * factor;
+        i += 1;
+    }
+    x
+}
+
+fn magnitude(m: u64, exponent: u32) -> f64 {
+    let whole = std::num::nearest_u64_to_f64(m);
+    if exponent < ADDED {
+        return scaled(whole, 0.5, ADDED - exponent);
+    }
+    scaled(whole, 2.0, exponent - ADDED)
+}
+
+fn signed(sign: u8, x: f64) -> f64 {
+    if sign == b'N' {
+        return 0.0 / 0.0;
+    }
+    if sign == b'-' {
+        return -x;
+    }
+    x
+}
+
+fn with_units(text: Text, units: Units) -> Text {
+    match units {
+        Units::Count(n) => text.number(0).space().six(n),
+        Units::Refused(k) => text.number(k),
+    }
+}
+
+// A line without its 0D.
+fn with_line(text: Text, buf: &[u8], length: usize) -> Text {
+    if length == 0 {
+        return text;
+    }
+    text.characters(block::front(buf, length - 1))
+}
+
+fn with_asked(text: Text, asked: Asked) -> Text {
+    match asked {
+        Asked::Refused(k) => text.number(k),
+        Asked::Command(command) => {
+            let request = Request {
+                silent: false,
+                command,
+                ident: Ident::Absent,
+            };
+            let mut buf = [0u8; 10];
+            let written = host::write_line(&mut buf, request);
+            match written {
+                Written::Length(n) => with_line(text.number(0).space(), &buf, n),
+                Written::Refused(k) => text.number(k),
+            }
+        }
+    }
+}
+
+fn with_both(speed: bool, x: f64) -> Text {
+    let units = units_of(speed, x);
+    let asked = figures::command_of(setting_of(speed, x));
+    with_asked(with_units(Text::new(), units).space(), asked)
+}
+
+// `F`: a figure read back.
+pub(crate) fn read_back(line: &[u8]) -> Text {
+    if line.len() < 23 {
+        return text::question();
+    }
+    let high = form::six(line, 6) as u64;
+    let m = high * 4294967296 + form::eight(line, 12) as u64;
+    if MOST_DIGITS < m {
+        return text::question();
+    }
+    let exponent = form::digit(line, 21) as u32 * 256 + form::two(line, 22) as u32;
+    let x = signed(line[4], magnitude(m, exponent));
+    with_both(is_speed(line), x)
+}
+
+// The units that a figure has, and 0 or the number that turns it away, mixed into a digest.
+fn mixed(h: u32, told: u32, units: Units) -> u32 {
+    match units {
+        Units::Count(n) => replay::digest::mix(h, told, n, 0),
+        Units::Refused(k) => replay::digest::mix(h, told, 0, k as u32),
+    }
+}
+
+// One n: its figure read back, and the next figure above.
+fn mixed_both(h: u32, speed: bool, n: u32) -> u32 {
+    let x = figure_of(speed, n);
+    let quarters = quarters_of(x);
+    let told = (quarters.count % 4294967296) as u32;
+    let read = mixed(h, told, units_of(speed, x));
+    mixed(read, 0, units_of(speed, x * NEXT))
+}
+
+fn mixed_all(speed: bool, most: u32) -> u32 {
+    let mut digest = 0;
+    for n in 1..=most {
+        digest = mixed_both(digest, speed, n);
+    }
+    digest
+}
+
+// `D`: every n from 1 to the largest setting, and one more.
+pub(crate) fn all(line: &[u8]) -> Text {
+    if is_speed(line) {
+        return Text::new().eight(mixed_all(true, SPEED_MOST + 1));
+    }
+    Text::new().eight(mixed_all(false, SLOPE_MOST + 1))
+}
+
+// A controller of switch 0.
+fn fresh() -> Controller
+    ensures { λ r. ⌜ Reachable r ⌝ }
+{
+    let on = controller::power_on(0);
+    let controller = on.controller;
+    controller
+}
+
+// A byte given to a controller.
+fn pass(c: Controller, b: u8) -> Controller
+    requires { ⌜ Reachable c ⌝ }
+    ensures { λ r. ⌜ Reachable r ⌝ }
+{
+    let mut buf = [0u8; 120];
+    let answer = c.byte(&mut buf, b);
+    let next = answer.controller;
+    next
+}
+
+// A whole line.
+fn send(was: Controller, line: &[u8]) -> Controller
+    requires { ⌜ Reachable was ⌝ }
+    ensures { λ r. ⌜ Reachable r ⌝ }
+{
+    let mut controller = was;
+    let mut i = 0;
+    while i < line.len() {
+        let next = pass(controller, line[i]);
+        controller = next;
+        i += 1;
+    }
+    controller
+}
+
+// `G`: the pair of figures of a controller that got both settings.
+pub(crate) fn pair(line: &[u8]) -> Text {
+    if line.len() < 13 {
+        return text::question();
+    }
+    let speed = [
+        b'P',
+        b'0',
+        b'8',
+        line[2],
+        line[3],
+        line[4],
+        line[5],
+        line[6],
+        13,
+    ];
+    let slope = [
+        b'P',
+        b'0',
+        b'9',
+        line[8],
+        line[9],
+        line[10],
+        line[11],
+        line[12],
+        13,
+    ];
+    let faster = send(fresh(), &speed);
+    let steeper = send(faster, &slope);
+    let pair = figures::figures_of(steeper);
+    with_figure(with_figure(Text::new(), pair.speed).space(), pair.slope)
+}
