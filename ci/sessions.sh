@@ -4,7 +4,7 @@
 # It runs target/bin/bench, which `rt check bench` proves and builds.
 set -eu
 cd "$(dirname "$0")/.."
-for input in docs/*.in crates/*/stdin; do
+for input in docs/*.in crates/bench*/stdin; do
     case "$input" in
         *.in) output="${input%.in}.out" ;;
         *) output="${input%stdin}stdout" ;;

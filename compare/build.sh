@@ -1,8 +1,8 @@
 #!/bin/sh
-# build.sh: proves and builds the bench program and the static library, then builds what compares them with the
-# reference. Says nothing unless something fails.
+# build.sh: proves and builds the bench program, the program of the host end and the static library, then builds what
+# compares them with the reference. Says nothing unless something fails.
 set -eu
 cd "$(dirname "$0")/.."
-said=$(rt check bench 2>&1) || { echo "$said"; exit 2; }
+said=$(rt check bench stored_host 2>&1) || { echo "$said"; exit 2; }
 said=$(rt staticlib replay 2>&1) || { echo "$said"; exit 2; }
 cargo build --release --offline --quiet --manifest-path compare/Cargo.toml || exit 2

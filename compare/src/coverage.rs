@@ -2,6 +2,12 @@
 
 use std::fmt;
 
+/// Counters that add up.
+pub trait Counted: Default + Send {
+    /// These counters and those of another run together.
+    fn add(&mut self, more: &Self);
+}
+
 /// Causes of a stop in the order of `CAUSE_NAMES`.
 #[derive(Clone, Copy)]
 pub enum Cause {
@@ -73,9 +79,8 @@ fn join_all(marks: &mut [bool; 256], more: &[bool; 256]) {
     }
 }
 
-impl Coverage {
-    /// These counters and those of another run together.
-    pub fn add(&mut self, more: &Coverage) {
+impl Counted for Coverage {
+    fn add(&mut self, more: &Coverage) {
         self.items += more.items;
         self.calls += more.calls;
         self.lines += more.lines;
@@ -93,7 +98,9 @@ impl Coverage {
         join_all(&mut self.switches, &more.switches);
         join_all(&mut self.lent, &more.lent);
     }
+}
 
+impl Coverage {
     pub fn number(&mut self, number: u8) {
         self.numbers[number as usize] += 1;
     }

@@ -1,18 +1,23 @@
 //! The proved controller against the reference by another hand: the same sessions and call lists, all answers compared.
 //!
 //! `session` runs text through the two bench programs, `list` runs calls through the two machines. An `operator` works
-//! at a `bench` to make them: it sets distances, starts, slows, stops and reads as a cellar master would.
+//! at a `bench` to make them: it sets distances, starts, slows, stops and reads as a cellar master would. `hosted` runs
+//! lines of the page of stored vectors through the two host ends.
 
+pub mod answers;
 pub mod bench;
 pub mod call;
 pub mod coverage;
 pub mod digest;
+pub mod hosted;
 pub mod line;
 pub mod list;
 pub mod observed;
 pub mod operator;
+pub mod program;
 pub mod proved;
 pub mod random;
 pub mod replay;
 pub mod session;
 pub mod shrink;
+pub mod vector;

@@ -3,11 +3,11 @@
 use crate::bench::Typed;
 use crate::coverage::Coverage;
 use crate::operator::Operator;
+use crate::program::{self, Places};
 use crate::random::Random;
 use crate::shrink;
-use std::fs::{self, File};
-use std::path::{Path, PathBuf};
-use std::process::Command;
+use std::fs;
+use std::path::Path;
 
 /// The part's place in the random numbers of a seed.
 const PART: u64 = 1;
@@ -17,13 +17,6 @@ const PART: u64 = 1;
 pub struct Session {
     pub seed: u64,
     pub index: u64,
-}
-
-/// Where the proved program stands and where working files go.
-#[derive(Clone, Debug)]
-pub struct Places {
-    pub program: PathBuf,
-    pub folder: PathBuf,
 }
 
 /// Most sessions are short; one in twenty has time for a full watch.
@@ -43,17 +36,9 @@ pub fn text_of(session: Session) -> (Vec<u8>, Coverage) {
     bench.finish(&mut random)
 }
 
-/// What the proved program prints; an end without success is printed too, so that it differs.
+/// What the proved program prints.
 fn proved_output(places: &Places, text: &[u8], name: &str) -> Vec<u8> {
-    let file = places.folder.join(name);
-    fs::write(&file, text).expect("a working file is written");
-    let input = File::open(&file).expect("a working file is read");
-    let run = Command::new(&places.program).stdin(input).output().expect("the bench program starts");
-    let mut output = run.stdout;
-    if !run.status.success() {
-        output.extend_from_slice(format!("\nended with {}\n", run.status).as_bytes());
-    }
-    output
+    program::output(&places.bench, &places.folder.join(name), text)
 }
 
 /// What the reference prints.

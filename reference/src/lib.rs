@@ -6,15 +6,21 @@
 
 pub mod bench;
 pub mod command;
+pub mod digest;
+pub mod fields;
 pub mod figures;
 pub mod host;
 pub mod inputs;
 pub mod line;
+pub mod lists;
 pub mod machine;
+pub mod make_host;
+pub mod make_lists;
 pub mod output;
 pub mod ramp;
 pub mod reply;
 pub mod share;
+pub mod vectors;
 
 pub use command::{Command, CommandValue};
 pub use figures::{figures_of, Figures, Setting};

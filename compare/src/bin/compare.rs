@@ -1,19 +1,26 @@
-//! Random sessions and call lists through the proved controller and through the reference.
+//! Random sessions, call lists and lines for the host end through the proved code and through the reference.
 
-use compare::coverage::{grouped, Coverage};
+use compare::coverage::{grouped, Counted};
+use compare::hosted::{self, Batch};
 use compare::list::{self, List};
-use compare::session::{self, Places, Session};
+use compare::program::Places;
+use compare::session::{self, Session};
 use std::path::PathBuf;
 use std::process::exit;
 use std::sync::atomic::{AtomicBool, AtomicUsize, Ordering};
 use std::thread;
 
-const USAGE: &str = "usage: compare [--sessions N] [--ticks N] [SEED ...], from the root of the repository";
+const USAGE: &str =
+    "usage: compare [--sessions N] [--ticks N] [--vectors N] [SEED ...], from the root of the repository";
 
-/// What is asked for: sessions and ticks in all, shared out over the seeds.
+/// The lines of one run of the host end.
+const BATCH: u64 = 10_000;
+
+/// What is asked for: sessions, ticks and lines for the host end in all, shared out over the seeds.
 struct Wish {
     sessions: u64,
     ticks: u64,
+    vectors: u64,
     seeds: Vec<u64>,
 }
 
@@ -25,12 +32,13 @@ fn number(text: Option<String>) -> u64 {
 }
 
 fn wish() -> Wish {
-    let mut wish = Wish { sessions: 2_000, ticks: 100_000_000, seeds: Vec::new() };
+    let mut wish = Wish { sessions: 2_000, ticks: 100_000_000, vectors: 1_000_000, seeds: Vec::new() };
     let mut words = std::env::args().skip(1);
     while let Some(word) = words.next() {
         match word.as_str() {
             "--sessions" => wish.sessions = number(words.next()),
             "--ticks" => wish.ticks = number(words.next()),
+            "--vectors" => wish.vectors = number(words.next()),
             _ => wish.seeds.push(number(Some(word))),
         }
     }
@@ -60,17 +68,28 @@ fn lists(wish: &Wish) -> Vec<List> {
     lists
 }
 
+/// The last batch is cut to fit.
+fn batches(wish: &Wish) -> Vec<Batch> {
+    let seeds = wish.seeds.len() as u64;
+    let batch = |at: u64| Batch {
+        seed: wish.seeds[(at % seeds) as usize],
+        index: at / seeds,
+        lines: BATCH.min(wish.vectors - at * BATCH) as usize,
+    };
+    (0..wish.vectors.div_ceil(BATCH)).map(batch).collect()
+}
+
 /// What one worker met, and the first difference that it found.
-type Found = (Coverage, Option<(usize, String)>);
+type Found<C> = (C, Option<(usize, String)>);
 
 /// Takes items in order until all are done or one differs.
-fn worker<T>(
+fn worker<T, C: Counted>(
     items: &[T],
     next: &AtomicUsize,
     halt: &AtomicBool,
-    run: impl Fn(&T) -> Result<Coverage, String>,
-) -> Found {
-    let mut seen = Coverage::default();
+    run: impl Fn(&T) -> Result<C, String>,
+) -> Found<C> {
+    let mut seen = C::default();
     while !halt.load(Ordering::SeqCst) {
         let at = next.fetch_add(1, Ordering::SeqCst);
         let Some(item) = items.get(at) else { break };
@@ -86,16 +105,16 @@ fn worker<T>(
 }
 
 /// Runs all items on every core; ends the program with the first difference, the same one in every run.
-fn run_all<T: Sync>(items: &[T], run: impl Fn(usize, &T) -> Result<Coverage, String> + Sync) -> Coverage {
+fn run_all<T: Sync, C: Counted>(items: &[T], run: impl Fn(usize, &T) -> Result<C, String> + Sync) -> C {
     let (next, halt) = (AtomicUsize::new(0), AtomicBool::new(false));
     let cores = thread::available_parallelism().map_or(1, |cores| cores.get());
-    let found: Vec<Found> = thread::scope(|scope| {
+    let found: Vec<Found<C>> = thread::scope(|scope| {
         let (next, halt, run) = (&next, &halt, &run);
         let start = |core| scope.spawn(move || worker(items, next, halt, |item| run(core, item)));
         let workers: Vec<_> = (0..cores).map(start).collect();
         workers.into_iter().map(|worker| worker.join().expect("a worker ends")).collect()
     });
-    let mut seen = Coverage::default();
+    let mut seen = C::default();
     found.iter().for_each(|(more, _)| seen.add(more));
     if let Some((_, difference)) = found.into_iter().filter_map(|(_, difference)| difference).min() {
         println!("{difference}");
@@ -115,11 +134,21 @@ fn run_lists(wish: &Wish, places: &Places) {
     print!("call lists through library and reference: {}\n{seen}  no difference\n", grouped(seen.items));
 }
 
+fn run_vectors(wish: &Wish, places: &Places) {
+    let run = |core, batch: &Batch| hosted::compare(places, *batch, &format!("working-{core}.vectors"));
+    let seen = run_all(&batches(wish), run);
+    print!("lines through the two host ends: {}\n{seen}  no difference\n", grouped(seen.lines));
+}
+
 fn main() {
     let wish = wish();
-    let places = Places { program: PathBuf::from("target/bin/bench"), folder: PathBuf::from("target/compare") };
-    if !places.program.is_file() {
-        eprintln!("target/bin/bench is absent: run `rt check bench` first\n{USAGE}");
+    let places = Places {
+        bench: PathBuf::from("target/bin/bench"),
+        host: PathBuf::from("target/bin/stored_host"),
+        folder: PathBuf::from("target/compare"),
+    };
+    if !places.bench.is_file() || !places.host.is_file() {
+        eprintln!("a proved program is absent: run `rt check bench stored_host` first\n{USAGE}");
         exit(2);
     }
     std::fs::create_dir_all(&places.folder).expect("target/compare can be made");
@@ -129,5 +158,8 @@ fn main() {
     }
     if wish.ticks > 0 {
         run_lists(&wish, &places);
+    }
+    if wish.vectors > 0 {
+        run_vectors(&wish, &places);
     }
 }

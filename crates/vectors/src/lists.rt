@@ -1,4 +1,5 @@
 // Lists of calls: gathered in the nine bytes of `replay`, then played to a fresh controller for each switch.
+ghost use Prim.Native.Nat.{_+_, _≤_};
 use crate::form;
 use crate::text;
 use crate::text::Text;
@@ -35,7 +36,17 @@ pub(crate) fn empty(first: u8, last: u8) -> List {
     }
 }
 
-// One call more, of value and count with the low byte first.
+// Four bytes of a call, the low one first.
+fn store(calls: &mut [u8; ROOM], at: usize, v: u32)
+    requires { ⌜ at + 4 ≤ 36864 ⌝ }
+{
+    calls[at] = (v % 256) as u8;
+    calls[at + 1] = (v / 256 % 256) as u8;
+    calls[at + 2] = (v / 65536 % 256) as u8;
+    calls[at + 3] = (v / 16777216) as u8;
+}
+
+// One call more.
 fn gather(list: List, calls: &mut [u8; ROOM], kind: u8, value: u32, count: u32) -> List {
     let n = list.count;
     if MOST <= n {
@@ -44,14 +55,8 @@ fn gather(list: List, calls: &mut [u8; ROOM], kind: u8, value: u32, count: u32) 
     }
     let at = 9 * n;
     calls[at] = kind;
-    calls[at + 1] = (value % 256) as u8;
-    calls[at + 2] = (value / 256 % 256) as u8;
-    calls[at + 3] = (value / 65536 % 256) as u8;
-    calls[at + 4] = (value / 16777216) as u8;
-    calls[at + 5] = (count % 256) as u8;
-    calls[at + 6] = (count / 256 % 256) as u8;
-    calls[at + 7] = (count / 65536 % 256) as u8;
-    calls[at + 8] = (count / 16777216) as u8;
+    store(calls, at + 1, value);
+    store(calls, at + 5, count);
     List {
         count: n + 1,
         first: list.first,

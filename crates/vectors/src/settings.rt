@@ -21,6 +21,9 @@ const MOST_DIGITS: u64 = 9007199254740992;
 
 const ADDED: u32 = 2048;
 
+// Byte 0D, which ends a line.
+const END: u8 = 13;
+
 // The next figure above 1.
 const NEXT: f64 = 1.0000000000000002;
 
@@ -228,19 +231,28 @@ fn pass(c: Controller, b: u8) -> Controller
     next
 }
 
-// A whole line.
-fn send(was: Controller, line: &[u8]) -> Controller
+fn pass_all(was: Controller, bytes: &[u8]) -> Controller
     requires { ⌜ Reachable was ⌝ }
     ensures { λ r. ⌜ Reachable r ⌝ }
 {
     let mut controller = was;
     let mut i = 0;
-    while i < line.len() {
-        let next = pass(controller, line[i]);
+    while i < bytes.len() {
+        let next = pass(controller, bytes[i]);
         controller = next;
         i += 1;
     }
     controller
+}
+
+// A line of this beginning and these digits.
+fn send(c: Controller, beginning: &[u8], digits: &[u8]) -> Controller
+    requires { ⌜ Reachable c ⌝ }
+    ensures { λ r. ⌜ Reachable r ⌝ }
+{
+    let begun = pass_all(c, beginning);
+    let told = pass_all(begun, digits);
+    pass(told, END)
 }
 
 // `G`: the pair of figures of a controller that got both settings.
@@ -248,30 +260,8 @@ pub(crate) fn pair(line: &[u8]) -> Text {
     if line.len() < 13 {
         return text::question();
     }
-    let speed = [
-        b'P',
-        b'0',
-        b'8',
-        line[2],
-        line[3],
-        line[4],
-        line[5],
-        line[6],
-        13,
-    ];
-    let slope = [
-        b'P',
-        b'0',
-        b'9',
-        line[8],
-        line[9],
-        line[10],
-        line[11],
-        line[12],
-        13,
-    ];
-    let faster = send(fresh(), &speed);
-    let steeper = send(faster, &slope);
+    let faster = send(fresh(), b"P08", &line[2..7]);
+    let steeper = send(faster, b"P09", &line[8..13]);
     let pair = figures::figures_of(steeper);
     with_figure(with_figure(Text::new(), pair.speed).space(), pair.slope)
 }

@@ -3,14 +3,14 @@ use Prim.Native.Nat.{_-_, _≤_}
 use lib.ListN.{length}
 use Rattle.controller.specs.Reach.{Reachable}
 use borrow.Author.Needs.{needs}
-use Rattle.vectors.proofs.settings.send.Statement.{statement}
-use Rattle.vectors.proofs.settings.send.Tie as tie
+use Rattle.vectors.proofs.settings.pass_all.Statement.{statement}
+use Rattle.vectors.proofs.settings.pass_all.Tie as tie
 
 abbrev Inv-loop : tie.InvT-loop
-Inv-loop line controller₀ i₀ controller i = (i ≤ length line) × Reachable controller
+Inv-loop bytes controller₀ i₀ controller i = (i ≤ length bytes) × Reachable controller
 
 abbrev μ-loop : tie.MeasureT-loop
-μ-loop line controller₀ i₀ controller i = length line - i
+μ-loop bytes controller₀ i₀ controller i = length bytes - i
 
 loop-holds : tie.Need-loop-holds Inv-loop μ-loop
 loop-holds c = search needs
@@ -33,8 +33,8 @@ loop-again c = search needs
 returns : tie.Need-returns Inv-loop μ-loop
 returns c = search needs
 
-pub send-spec : {M : Type 1} → statement M
-send-spec =
+pub pass-all-spec : {M : Type 1} → statement M
+pass-all-spec =
     tie.close
     (tie.spec
     Inv-loop

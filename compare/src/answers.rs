@@ -1,0 +1,55 @@
+//! Counters of the host end's lines and of what they were answered.
+
+use crate::coverage::{grouped, Counted};
+use std::collections::BTreeMap;
+use std::fmt;
+
+/// How many lines have each letter, and how many answers begin with each word of two characters.
+#[derive(Clone, Debug, Default)]
+pub struct Answers {
+    pub lines: u64,
+    letters: BTreeMap<char, u64>,
+    numbers: BTreeMap<String, u64>,
+}
+
+/// A number of the paper at the front of the answers to W, B and F, or the question mark.
+fn number_of(line: &[u8], answer: &str) -> Option<String> {
+    let first = answer.split(' ').next().unwrap_or_default();
+    (first == "?" || b"WBF".contains(&line[0])).then(|| first.to_string())
+}
+
+impl Answers {
+    pub fn count(&mut self, line: &[u8], answer: &str) {
+        self.lines += 1;
+        *self.letters.entry(line[0] as char).or_default() += 1;
+        if let Some(number) = number_of(line, answer) {
+            *self.numbers.entry(number).or_default() += 1;
+        }
+    }
+}
+
+fn add_all<K: Clone + Ord>(sums: &mut BTreeMap<K, u64>, more: &BTreeMap<K, u64>) {
+    for (key, count) in more {
+        *sums.entry(key.clone()).or_default() += count;
+    }
+}
+
+impl Counted for Answers {
+    fn add(&mut self, more: &Answers) {
+        self.lines += more.lines;
+        add_all(&mut self.letters, &more.letters);
+        add_all(&mut self.numbers, &more.numbers);
+    }
+}
+
+fn listed<K: fmt::Display>(counts: &BTreeMap<K, u64>) -> String {
+    let all: Vec<String> = counts.iter().map(|(key, count)| format!("{key} {}", grouped(*count))).collect();
+    all.join(", ")
+}
+
+impl fmt::Display for Answers {
+    fn fmt(&self, f: &mut fmt::Formatter) -> fmt::Result {
+        writeln!(f, "  lines: {}", listed(&self.letters))?;
+        writeln!(f, "  numbers of W, B and F, and question marks: {}", listed(&self.numbers))
+    }
+}

@@ -1,0 +1,69 @@
+//! Lines of `docs/VECTORS.md` for the host end, with fields at their bounds, near them and anywhere.
+
+mod block;
+mod command;
+mod figure;
+
+use crate::random::Random;
+
+/// A value for a field that is taken from 0 or 1 to `last`: the ends, what is next to them, one in the range, any.
+fn near(random: &mut Random, last: u32) -> u32 {
+    match random.below(10) {
+        0 => random.below(3),
+        1 => last,
+        2 => last + 1,
+        3 => last - random.below(3),
+        4 => random.bits() as u32,
+        5..=7 => random.spread(last),
+        _ => random.between(0, last),
+    }
+}
+
+/// Five distances, of which some are equal.
+fn distances(random: &mut Random) -> String {
+    let most = random.pick(&[3, 524_287, u32::MAX - 1]);
+    let (one, other) = (random.below(most), random.below(most));
+    let all: Vec<String> = (0..5)
+        .map(|_| {
+            let any = random.bits() as u32;
+            format!(" {:08X}", random.pick(&[0, one, one, one, one + 1, other, other, any]))
+        })
+        .collect();
+    format!("M{}", all.concat())
+}
+
+/// A character as damage puts it in.
+fn stray(random: &mut Random) -> u8 {
+    random.pick(b" 0123456789ABCDEFabcdefGWBMFUVNk+-_?/:@`\r\t")
+}
+
+/// A line with one character replaced, dropped or put in. Its letter stays, so that it prints something, and is not D.
+fn damaged(random: &mut Random, line: String) -> Vec<u8> {
+    let mut line = line.into_bytes();
+    let at = random.between(1, line.len() as u32 - 1) as usize;
+    match random.below(3) {
+        0 => line[at] = stray(random),
+        1 => {
+            line.remove(at);
+        }
+        _ => line.insert(at, stray(random)),
+    }
+    line
+}
+
+/// One line without its line feed. Each prints one line.
+pub fn line(random: &mut Random) -> Vec<u8> {
+    let line = match random.below(20) {
+        0..=6 => command::line(random),
+        7..=12 => block::line(random),
+        13..=14 => distances(random),
+        15..=17 => figure::read_back(random),
+        18 => figure::shown(random),
+        _ => figure::pair(random),
+    };
+    if random.chance(2) {
+        damaged(random, line)
+    } else {
+        line.into_bytes()
+    }
+}

@@ -1,0 +1,78 @@
+//! `B`: reply blocks in every form, and damaged by one character.
+
+use super::near;
+use crate::random::Random;
+
+const DIGITS: &[u8; 16] = b"0123456789ABCDEF";
+
+/// The most bytes of a line.
+const LONGEST: usize = 16;
+
+/// The five digits after the code of an S block.
+fn order_digits(random: &mut Random, code: u32) -> u32 {
+    let (any, bit) = (random.below(1 << 20), 1 << random.below(20));
+    match code {
+        6 => near(random, 127) % (1 << 20),
+        8 => random.below(16) << 16 | random.pick(&[0, any & 0xFFFF]),
+        0xD | 0xE => any & 0x33FF | random.pick(&[0, 0, 0, bit]),
+        _ => random.pick(&[any, any, 0, 0x7FFFF, 0x80000, 0xFFFFF]),
+    }
+}
+
+/// The letter and the six digits of a block.
+fn content(random: &mut Random) -> (u8, u32) {
+    let (code, any) = (random.below(16), random.below(1 << 20));
+    match random.below(4) {
+        0 => (b'U', near(random, 17) % (1 << 24)),
+        1 => (b'S', code << 20 | order_digits(random, code)),
+        2 => (b's', random.below(6) << 20 | random.pick(&[0, 1, 0x7FFFF, 0x80000, 0xFFFFF, any, any])),
+        _ => (b'R', near(random, 0xFF_FFFF) % (1 << 24)),
+    }
+}
+
+/// A block whose fields may be out of their ranges.
+fn block(random: &mut Random) -> Vec<u8> {
+    let (letter, number) = content(random);
+    let mut block = vec![letter, random.pick(DIGITS)];
+    block.extend(format!("{number:06X}").bytes());
+    if random.chance(50) {
+        block.push(random.pick(DIGITS));
+    }
+    block.push(b'\r');
+    block
+}
+
+/// A byte near the one that was there, or any.
+fn touched(random: &mut Random, byte: u8) -> u8 {
+    let any = random.below(256) as u8;
+    let digit = random.pick(DIGITS);
+    random.pick(&[any, digit, byte ^ 0x20, byte.wrapping_add(1), byte.wrapping_sub(1), b'\r', b'\n', b'G', b'g'])
+}
+
+fn damage(random: &mut Random, block: &mut Vec<u8>) {
+    let at = random.below(block.len() as u32) as usize;
+    let byte = touched(random, block[at]);
+    match random.below(6) {
+        0 => {
+            block.remove(at);
+        }
+        1 => block.insert(at, byte),
+        2 => block.push(byte),
+        _ => block[at] = byte,
+    }
+}
+
+fn noise(random: &mut Random) -> Vec<u8> {
+    let length = random.below(LONGEST as u32 + 1);
+    (0..length).map(|_| random.below(256) as u8).collect()
+}
+
+pub fn line(random: &mut Random) -> String {
+    let mut bytes = if random.chance(97) { block(random) } else { noise(random) };
+    if !bytes.is_empty() && random.chance(40) {
+        damage(random, &mut bytes);
+    }
+    bytes.truncate(LONGEST);
+    let spelled: Vec<String> = bytes.iter().map(|byte| format!("{byte:02X}")).collect();
+    format!("B {}", spelled.concat())
+}

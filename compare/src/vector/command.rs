@@ -1,0 +1,71 @@
+//! `W`: commands with their fields, line buffers and identifications.
+
+use super::near;
+use crate::random::Random;
+
+/// The commands of the page's table.
+const COMMANDS: u32 = 18;
+
+/// The bits of low-ON and high-ON that mean something.
+const INPUT_BITS: u32 = 0x33FF;
+
+/// The greatest value of each command that has one and is no set of input bits; 3 for the others.
+fn last(command: u32) -> u32 {
+    match command {
+        0x00 => 524_287,
+        0x01 => 1_000_000,
+        0x02 | 0x05 => 4_095,
+        0x03 => 16_383,
+        0x11 => 0xFF_FFFF,
+        _ => 3,
+    }
+}
+
+/// Input bits, at times with one that means nothing beside them.
+fn inputs(random: &mut Random) -> u32 {
+    let bits = random.bits() as u32 & INPUT_BITS;
+    if random.chance(40) {
+        bits | 1 << random.below(32)
+    } else {
+        bits
+    }
+}
+
+fn value(random: &mut Random, command: u32) -> u32 {
+    match command {
+        0x04 => near(random, 3) | near(random, 0xFF_FFFE) << 8,
+        0x0C | 0x0D => inputs(random),
+        _ => near(random, last(command)),
+    }
+}
+
+fn identification(random: &mut Random) -> String {
+    match random.below(10) {
+        0..=4 => "--".into(),
+        5..=8 => format!("{:02X}", random.pick(b"0123456789ABCDEF")),
+        _ => format!("{:02X}", random.below(256)),
+    }
+}
+
+/// Mostly the least length that is taken.
+fn room(random: &mut Random) -> u32 {
+    match random.below(20) {
+        0..=11 => 10,
+        12..=14 => random.between(8, 11),
+        15..=18 => random.below(65),
+        _ => random.below(256),
+    }
+}
+
+pub fn line(random: &mut Random) -> String {
+    let command = if random.chance(98) { random.below(COMMANDS) } else { random.below(256) };
+    let axis = if random.chance(85) { random.below(6) } else { random.below(256) };
+    format!(
+        "W {:02X} {} {command:02X} {axis:02X} {} {:08X} {}",
+        room(random),
+        random.below(2),
+        random.below(2),
+        value(random, command),
+        identification(random)
+    )
+}

@@ -1,0 +1,21 @@
+//! Stored inputs: `make_vectors lists` or `make_vectors host` writes one of the two texts to standard output.
+
+use reference::{make_host::host_text, make_lists::lists_text};
+use std::io::{self, Write};
+
+/// Stored lists and vectors: the text of a name.
+fn text_of(name: Option<&str>) -> Option<String> {
+    match name {
+        Some("lists") => Some(lists_text()),
+        Some("host") => Some(host_text()),
+        _ => None,
+    }
+}
+
+fn main() -> io::Result<()> {
+    let name = std::env::args().nth(1);
+    match text_of(name.as_deref()) {
+        Some(text) => io::stdout().lock().write_all(text.as_bytes()),
+        None => Err(io::Error::other("say lists or host")),
+    }
+}
