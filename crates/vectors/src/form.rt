@@ -1,15 +1,12 @@
 // The form of a line, and the numbers in its fields.
-ghost use Prim.Native.Nat.{_<_, _≤_};
 use digits::Digit;
 
 // The value of a capital hexadecimal digit, or 16.
-fn value(c: u8) -> u8
-    ensures { λ r. ⌜ r ≤ 16 ⌝ }
-{
+fn value(c: u8) -> u8 {
     let digit = digits::read_digit(c);
     match digit {
         Digit::Other => 16,
-        Digit::Capital(v) => v % 16,
+        Digit::Capital(v) => v,
         Digit::Small(_) => 16,
     }
 }
@@ -41,36 +38,32 @@ pub(crate) fn fits(line: &[u8], form: &[u8]) -> bool {
     true
 }
 
-// The digit at a place; 0 where there is none.
-pub(crate) fn digit(line: &[u8], at: usize) -> u8
-    ensures { λ r. ⌜ r ≤ 15 ⌝ }
-{
-    if line.len() <= at {
+// The character at a place; 0 where there is none.
+pub(crate) fn at(line: &[u8], place: usize) -> u8 {
+    if line.len() <= place {
         return 0;
     }
-    value(line[at]) % 16
+    line[place]
 }
 
-// The two digits from a place on.
-pub(crate) fn two(line: &[u8], at: usize) -> u8
-    requires { ⌜ at < 100 ⌝ }
-{
-    digit(line, at) * 16 + digit(line, at + 1)
+// The number with one digit more; eight digits fit.
+fn join(n: u32, c: u8) -> u32 {
+    n % 268435456 * 16 + (value(c) % 16) as u32
 }
 
-// Eight digits.
-pub(crate) fn eight(line: &[u8], at: usize) -> u32
-    requires { ⌜ at < 90 ⌝ }
-{
-    let high = two(line, at) as u32 * 256 + two(line, at + 2) as u32;
-    let low = two(line, at + 4) as u32 * 256 + two(line, at + 6) as u32;
-    high * 65536 + low
+// The number of the digits from a place up to another.
+pub(crate) fn number(line: &[u8], from: usize, end: usize) -> u32 {
+    let mut n = 0;
+    for i in from..end {
+        n = join(n, at(line, i));
+    }
+    n
 }
 
-// Six.
-pub(crate) fn six(line: &[u8], at: usize) -> u32
-    requires { ⌜ at < 90 ⌝ }
-{
-    let high = two(line, at) as u32;
-    high * 65536 + two(line, at + 2) as u32 * 256 + two(line, at + 4) as u32
+// Two digits from a place on.
+pub(crate) fn byte(line: &[u8], at: usize) -> u8 {
+    if 100 <= at {
+        return 0;
+    }
+    (number(line, at, at + 2) % 256) as u8
 }

@@ -2,20 +2,19 @@
 use crate::blocks;
 use crate::form;
 use crate::settings;
-use crate::text;
 use crate::text::Text;
 use crate::writer;
 
 // The master picker.
 fn master(line: &[u8]) -> Text {
     let distances = [
-        form::eight(line, 2),
-        form::eight(line, 11),
-        form::eight(line, 20),
-        form::eight(line, 29),
-        form::eight(line, 38),
+        form::number(line, 2, 10),
+        form::number(line, 11, 19),
+        form::number(line, 20, 28),
+        form::number(line, 29, 37),
+        form::number(line, 38, 46),
     ];
-    Text::new().digit(host::pick_master(distances))
+    Text::new().hex(host::pick_master(distances) as u64, 1)
 }
 
 // What a line is answered.

@@ -17,9 +17,10 @@ pub(crate) enum Program {
     HostEnd,
 }
 
-// The list so far, and the characters of the line so far: one more than the most for any longer line.
+// The list so far, and the characters of the line so far with their count: one more than the most for a longer line.
 struct Stand {
     list: List,
+    chars: [u8; LONGEST],
     length: usize,
 }
 
@@ -47,58 +48,40 @@ fn take_line(program: Program, list: List, calls: &mut [u8; lists::ROOM], line: 
 }
 
 // The end of a line.
-fn end_line(
-    program: Program,
-    stand: Stand,
-    calls: &mut [u8; lists::ROOM],
-    line: &[u8; LONGEST],
-) -> List {
+fn end_line(program: Program, stand: Stand, calls: &mut [u8; lists::ROOM]) -> List {
     let list = stand.list;
     let n = stand.length;
     if LONGEST < n {
         text::question().print();
         return list;
     }
-    take_line(program, list, calls, block::front(line, n))
+    let chars = stand.chars;
+    take_line(program, list, calls, block::front(&chars, n))
 }
 
-fn take_byte(
-    program: Program,
-    stand: Stand,
-    calls: &mut [u8; lists::ROOM],
-    line: &mut [u8; LONGEST],
-    b: u8,
-) -> Stand {
-    if b == FEED {
-        let list = end_line(program, stand, calls, line);
-        return Stand { list, length: 0 };
-    }
-    let list = stand.list;
+fn take_byte(program: Program, stand: Stand, calls: &mut [u8; lists::ROOM], b: u8) -> Stand {
+    let mut next = stand;
     let n = stand.length;
+    if b == FEED {
+        let list = end_line(program, stand, calls);
+        next.list = list;
+        next.length = 0;
+        return next;
+    }
     if LONGEST <= n {
-        return Stand {
-            list,
-            length: LONGEST + 1,
-        };
+        next.length = LONGEST + 1;
+        return next;
     }
-    line[n] = b;
-    Stand {
-        list,
-        length: n + 1,
-    }
+    next.chars[n] = b;
+    next.length = n + 1;
+    next
 }
 
-fn take_all(
-    program: Program,
-    was: Stand,
-    calls: &mut [u8; lists::ROOM],
-    line: &mut [u8; LONGEST],
-    bytes: &[u8],
-) -> Stand {
+fn take_all(program: Program, was: Stand, calls: &mut [u8; lists::ROOM], bytes: &[u8]) -> Stand {
     let mut stand = was;
     let mut i = 0;
     while i < bytes.len() {
-        let next = take_byte(program, stand, calls, line, bytes[i]);
+        let next = take_byte(program, stand, calls, bytes[i]);
         stand = next;
         i += 1;
     }
@@ -106,19 +89,14 @@ fn take_all(
 }
 
 // Reads once, and takes what came.
-fn read_once(
-    program: Program,
-    stand: Stand,
-    calls: &mut [u8; lists::ROOM],
-    line: &mut [u8; LONGEST],
-) -> Turn {
+fn read_once(program: Program, stand: Stand, calls: &mut [u8; lists::ROOM]) -> Turn {
     let mut buf = io::buffer();
     let got = libc::read(STDIN_FILENO, &mut buf);
     if got <= 0 {
         return Turn { stand, more: false };
     }
     let n = io::count(got, &buf);
-    let next = take_all(program, stand, calls, line, &buf[..n]);
+    let next = take_all(program, stand, calls, &buf[..n]);
     Turn {
         stand: next,
         more: true,
@@ -127,16 +105,11 @@ fn read_once(
 
 // Reads to the end. A proved loop has to end, and nothing says that the input does: the turns are counted down from a
 // number that no run uses up.
-fn read_all(
-    program: Program,
-    was: Stand,
-    calls: &mut [u8; lists::ROOM],
-    line: &mut [u8; LONGEST],
-) -> Stand {
+fn read_all(program: Program, was: Stand, calls: &mut [u8; lists::ROOM]) -> Stand {
     let mut stand = was;
     let mut turns = u64::MAX;
     while 0 < turns {
-        let t = read_once(program, stand, calls, line);
+        let t = read_once(program, stand, calls);
         let next = t.stand;
         stand = next;
         turns -= 1;
@@ -150,9 +123,16 @@ fn read_all(
 // The whole input; its last line may lack the line feed.
 pub(crate) fn run(program: Program) {
     let mut calls = [0u8; lists::ROOM];
-    let mut line = [0u8; LONGEST];
-    let list = lists::empty(0, 0);
-    let fresh = Stand { list, length: 0 };
-    let stand = read_all(program, fresh, &mut calls, &mut line);
-    end_line(program, stand, &mut calls, &line);
+    let list = List {
+        count: 0,
+        first: 0,
+        last: 0,
+    };
+    let fresh = Stand {
+        list,
+        chars: [0; LONGEST],
+        length: 0,
+    };
+    let stand = read_all(program, fresh, &mut calls);
+    end_line(program, stand, &mut calls);
 }

@@ -23,17 +23,9 @@ const LENT: u8 = 120;
 
 // How many calls are gathered, and the first and the last switch.
 pub(crate) struct List {
-    count: usize,
-    first: u8,
-    last: u8,
-}
-
-pub(crate) fn empty(first: u8, last: u8) -> List {
-    List {
-        count: 0,
-        first,
-        last,
-    }
+    pub(crate) count: usize,
+    pub(crate) first: u8,
+    pub(crate) last: u8,
 }
 
 // Four bytes of a call, the low one first.
@@ -64,14 +56,6 @@ fn gather(list: List, calls: &mut [u8; ROOM], kind: u8, value: u32, count: u32) 
     }
 }
 
-// Whether so many calls have room.
-fn has_room(list: List, n: usize) -> bool {
-    if MOST < list.count {
-        return false;
-    }
-    n <= MOST - list.count
-}
-
 // A received byte with so many bytes lent.
 fn gather_byte(list: List, calls: &mut [u8; ROOM], b: u8, lent: u8) -> List {
     gather(list, calls, BYTE, b as u32, lent as u32)
@@ -89,31 +73,15 @@ fn gather_line(was: List, calls: &mut [u8; ROOM], line: &[u8]) -> List {
     gather_byte(list, calls, END, LENT)
 }
 
-// The list played for one switch.
-fn play_one(calls: &[u8], switch: u8) {
-    let digest = replay::temixohuel_replay(switch, calls);
-    Text::new().two(switch).space().eight(digest).print();
-}
-
-fn play_each(calls: &[u8], first: u8, last: u8) {
-    for switch in first..=last {
-        play_one(calls, switch);
-    }
-}
-
-fn play(list: List, calls: &[u8]) {
-    let n = list.count;
-    if n <= MOST {
-        play_each(block::front(calls, 9 * n), list.first, list.last);
-    }
-}
-
-// A line `L text`, or one of no form.
+// A line `L text`, or one of no form. The 0D is one call more than the text has characters.
 fn take_text(list: List, calls: &mut [u8; ROOM], line: &[u8]) -> List {
+    let n = list.count;
     if 2 < line.len() {
         if line[0] == b'L' && line[1] == b' ' {
-            if has_room(list, line.len() - 1) {
-                return gather_line(list, calls, &line[2..]);
+            if n <= MOST {
+                if line.len() - 1 <= MOST - n {
+                    return gather_line(list, calls, &line[2..]);
+                }
             }
         }
     }
@@ -121,16 +89,45 @@ fn take_text(list: List, calls: &mut [u8; ROOM], line: &[u8]) -> List {
     list
 }
 
+fn play_each(calls: &[u8], first: u8, last: u8) {
+    for switch in first..=last {
+        let digest = replay::temixohuel_replay(switch, calls);
+        Text::new()
+            .byte(switch)
+            .with(b' ')
+            .hex(digest as u64, 8)
+            .print();
+    }
+}
+
+// The list played for each of its switches.
+fn play(list: List, calls: &[u8]) {
+    let n = list.count;
+    if n <= MOST {
+        play_each(block::front(calls, 9 * n), list.first, list.last);
+    }
+}
+
 // A line of the page.
 pub(crate) fn take(list: List, calls: &mut [u8; ROOM], line: &[u8]) -> List {
     if form::fits(line, b"S hh hh") {
-        return empty(form::two(line, 2), form::two(line, 5));
+        return List {
+            count: 0,
+            first: form::byte(line, 2),
+            last: form::byte(line, 5),
+        };
     }
     if form::fits(line, b"B hh hh") {
-        return gather_byte(list, calls, form::two(line, 2), form::two(line, 5));
+        return gather_byte(list, calls, form::byte(line, 2), form::byte(line, 5));
     }
     if form::fits(line, b"T hhhhhh hhhhhhhh") {
-        return gather(list, calls, TICKS, form::eight(line, 9), form::six(line, 2));
+        return gather(
+            list,
+            calls,
+            TICKS,
+            form::number(line, 9, 17),
+            form::number(line, 2, 8),
+        );
     }
     if form::fits(line, b"R") {
         return gather(list, calls, READINGS, 0, 0);

@@ -35,10 +35,7 @@ struct Quarters {
 
 // Whether a line is of speeds; else it is of slopes.
 fn is_speed(line: &[u8]) -> bool {
-    if line.len() < 3 {
-        return false;
-    }
-    line[2] == b'V'
+    form::at(line, 2) == b'V'
 }
 
 // The figure of n units.
@@ -82,16 +79,19 @@ fn quarters_of(x: f64) -> Quarters {
 // A figure as `U` prints it.
 fn with_figure(text: Text, x: f64) -> Text {
     let quarters = quarters_of(x);
-    let told = text.sixteen(quarters.count).space();
+    let told = text.hex(quarters.count, 16);
     if quarters.exact {
-        return told.with(b'=');
+        return told.characters(b" =");
     }
-    told.with(b'~')
+    told.characters(b" ~")
 }
 
 // `U`: the figure of any number of units.
 pub(crate) fn shown(line: &[u8]) -> Text {
-    with_figure(Text::new(), figure_of(is_speed(line), form::eight(line, 4)))
+    with_figure(
+        Text::new(),
+        figure_of(is_speed(line), form::number(line, 4, 12)),
+    )
 }
 
 // m doubled or halved step by step.
@@ -125,19 +125,12 @@ fn signed(sign: u8, x: f64) -> f64 {
 
 fn with_units(text: Text, units: Units) -> Text {
     match units {
-        Units::Count(n) => text.number(0).space().six(n),
+        Units::Count(n) => text.characters(b"00 ").hex(n as u64, 6),
         Units::Refused(k) => text.number(k),
     }
 }
 
-// A line without its 0D.
-fn with_line(text: Text, buf: &[u8], length: usize) -> Text {
-    if length == 0 {
-        return text;
-    }
-    text.characters(block::front(buf, length - 1))
-}
-
+// The line of a command without its 0D.
 fn with_asked(text: Text, asked: Asked) -> Text {
     match asked {
         Asked::Refused(k) => text.number(k),
@@ -150,39 +143,50 @@ fn with_asked(text: Text, asked: Asked) -> Text {
             let mut buf = [0u8; 10];
             let written = host::write_line(&mut buf, request);
             match written {
-                Written::Length(n) => with_line(text.number(0).space(), &buf, n),
                 Written::Refused(k) => text.number(k),
+                Written::Length(n) => {
+                    if n == 0 {
+                        return text;
+                    }
+                    text.characters(b"00 ")
+                        .characters(block::front(&buf, n - 1))
+                }
             }
         }
     }
 }
 
-fn with_both(speed: bool, x: f64) -> Text {
-    let units = units_of(speed, x);
-    let asked = figures::command_of(setting_of(speed, x));
-    with_asked(with_units(Text::new(), units).space(), asked)
-}
-
 // `F`: a figure read back.
 pub(crate) fn read_back(line: &[u8]) -> Text {
-    if line.len() < 23 {
-        return text::question();
-    }
-    let high = form::six(line, 6) as u64;
-    let m = high * 4294967296 + form::eight(line, 12) as u64;
+    let high = form::number(line, 6, 12) as u64;
+    let m = high * 4294967296 + form::number(line, 12, 20) as u64;
     if MOST_DIGITS < m {
         return text::question();
     }
-    let exponent = form::digit(line, 21) as u32 * 256 + form::two(line, 22) as u32;
-    let x = signed(line[4], magnitude(m, exponent));
-    with_both(is_speed(line), x)
+    let sign = form::at(line, 4);
+    let speed = is_speed(line);
+    let x = signed(sign, magnitude(m, form::number(line, 21, 24)));
+    let asked = figures::command_of(setting_of(speed, x));
+    with_asked(
+        with_units(Text::new(), units_of(speed, x)).with(b' '),
+        asked,
+    )
+}
+
+// A digest with three numbers more, as docs/VECTORS.md mixes them in.
+fn mix(h: u32, x: u32, y: u32, z: u32) -> u32 {
+    let sum = h as u64 * 2147483629
+        + x as u64 * 1073741789
+        + y as u64 * 536870909
+        + z as u64 * 268435399;
+    (sum % 4294967296) as u32
 }
 
 // The units that a figure has, and 0 or the number that turns it away, mixed into a digest.
 fn mixed(h: u32, told: u32, units: Units) -> u32 {
     match units {
-        Units::Count(n) => replay::digest::mix(h, told, n, 0),
-        Units::Refused(k) => replay::digest::mix(h, told, 0, k as u32),
+        Units::Count(n) => mix(h, told, n, 0),
+        Units::Refused(k) => mix(h, told, 0, k as u32),
     }
 }
 
@@ -206,9 +210,9 @@ fn mixed_all(speed: bool, most: u32) -> u32 {
 // `D`: every n from 1 to the largest setting, and one more.
 pub(crate) fn all(line: &[u8]) -> Text {
     if is_speed(line) {
-        return Text::new().eight(mixed_all(true, SPEED_MOST + 1));
+        return Text::new().hex(mixed_all(true, SPEED_MOST + 1) as u64, 8);
     }
-    Text::new().eight(mixed_all(false, SLOPE_MOST + 1))
+    Text::new().hex(mixed_all(false, SLOPE_MOST + 1) as u64, 8)
 }
 
 // A controller of switch 0.
@@ -263,5 +267,5 @@ pub(crate) fn pair(line: &[u8]) -> Text {
     let faster = send(fresh(), b"P08", &line[2..7]);
     let steeper = send(faster, b"P09", &line[8..13]);
     let pair = figures::figures_of(steeper);
-    with_figure(with_figure(Text::new(), pair.speed).space(), pair.slope)
+    with_figure(with_figure(Text::new(), pair.speed).with(b' '), pair.slope)
 }

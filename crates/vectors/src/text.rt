@@ -1,4 +1,5 @@
 // A line of output, made piece by piece. What has no room is dropped; no line of the page comes near that.
+ghost use Prim.Native.Nat.{_≤_};
 use libc::STDOUT_FILENO;
 
 // The longest line and its line feed.
@@ -30,39 +31,24 @@ impl Text {
         self
     }
 
-    pub(crate) fn space(self) -> Text {
-        self.with(b' ')
+    // So many hexadecimal digits.
+    pub(crate) fn hex(self, v: u64, count: u64) -> Text
+        requires { ⌜ count ≤ 16 ⌝ }
+    {
+        let mut text = self;
+        let mut left = count;
+        while 0 < left {
+            left -= 1;
+            let digit = (v >> (4 * left)) % 16;
+            let next = text.with(digits::capital(digit as u8));
+            text = next;
+        }
+        text
     }
 
-    // One hexadecimal digit.
-    pub(crate) fn digit(self, v: u8) -> Text {
-        self.with(digits::capital(v))
-    }
-
-    // Two hexadecimal digits.
-    pub(crate) fn two(self, v: u8) -> Text {
-        self.digit(v / 16).digit(v)
-    }
-
-    // Six.
-    pub(crate) fn six(self, v: u32) -> Text {
-        let high = (v / 65536 % 256) as u8;
-        let middle = (v / 256 % 256) as u8;
-        let low = (v % 256) as u8;
-        self.two(high).two(middle).two(low)
-    }
-
-    // Eight.
-    pub(crate) fn eight(self, v: u32) -> Text {
-        let high = (v / 16777216) as u8;
-        self.two(high).six(v)
-    }
-
-    // Sixteen.
-    pub(crate) fn sixteen(self, v: u64) -> Text {
-        let high = (v / 4294967296) as u32;
-        let low = (v % 4294967296) as u32;
-        self.eight(high).eight(low)
+    // A byte, two digits.
+    pub(crate) fn byte(self, b: u8) -> Text {
+        self.hex(b as u64, 2)
     }
 
     // A number of the paper, two decimal digits.
@@ -70,33 +56,16 @@ impl Text {
         self.with(b'0' + n / 10 % 10).with(b'0' + n % 10)
     }
 
-    // A byte as two hexadecimal digits, or as the character that it is.
-    fn piece(self, b: u8, spelled: bool) -> Text {
-        if spelled {
-            return self.two(b);
-        }
-        self.with(b)
-    }
-
-    fn pieces(self, s: &[u8], spelled: bool) -> Text {
+    // Characters as they are.
+    pub(crate) fn characters(self, s: &[u8]) -> Text {
         let mut text = self;
         let mut i = 0;
         while i < s.len() {
-            let next = text.piece(s[i], spelled);
+            let next = text.with(s[i]);
             text = next;
             i += 1;
         }
         text
-    }
-
-    // Characters as they are.
-    pub(crate) fn characters(self, s: &[u8]) -> Text {
-        self.pieces(s, false)
-    }
-
-    // Bytes, two hexadecimal digits each.
-    pub(crate) fn bytes(self, s: &[u8]) -> Text {
-        self.pieces(s, true)
     }
 
     // Written to standard output with a line feed.

@@ -50,20 +50,27 @@ fn command_of(number: u8, axis: u8, flag: bool, value: u32) -> Asked {
     }
 }
 
-// The number and the length that the writer answers, then the whole buffer.
-fn told(number: u8, length: usize, buf: &[u8]) -> Text {
-    let answer = Text::new().number(number).space().two((length % 256) as u8);
-    if buf.len() == 0 {
-        return answer;
+// Bytes, two digits each, after a space; nothing where there is none.
+fn with_bytes(text: Text, s: &[u8]) -> Text {
+    if s.len() == 0 {
+        return text;
     }
-    answer.space().bytes(buf)
+    let mut told = text.with(b' ');
+    let mut i = 0;
+    while i < s.len() {
+        let next = told.byte(s[i]);
+        told = next;
+        i += 1;
+    }
+    told
 }
 
+// The number and the length that the writer answers, then the whole buffer.
 fn written(buf: &mut [u8], request: Request) -> Text {
     let answer = host::write_line(buf, request);
     match answer {
-        Written::Length(n) => told(0, n, buf),
-        Written::Refused(k) => told(k, 0, buf),
+        Written::Length(n) => { with_bytes(Text::new().number(0).with(b' ').hex(n as u64, 2), buf) }
+        Written::Refused(k) => with_bytes(Text::new().number(k).with(b' ').hex(0, 2), buf),
     }
 }
 
@@ -77,32 +84,29 @@ fn lent(room: usize, request: Request) -> Text
 
 fn ident_of(line: &[u8], given: bool) -> Ident {
     if given {
-        return Ident::Given(form::two(line, 24));
+        return Ident::Given(form::byte(line, 24));
     }
     Ident::Absent
 }
 
 pub(crate) fn answer(line: &[u8], given: bool) -> Text {
-    let room = form::two(line, 2) as usize;
-    let silent = form::digit(line, 5) == 1;
-    let flag = form::digit(line, 13) == 1;
+    let room = form::byte(line, 2) as usize;
+    if ROOM < room {
+        return text::question();
+    }
     let asked = command_of(
-        form::two(line, 7),
-        form::two(line, 10),
-        flag,
-        form::eight(line, 15),
+        form::byte(line, 7),
+        form::byte(line, 10),
+        form::number(line, 13, 14) == 1,
+        form::number(line, 15, 23),
     );
-    let ident = ident_of(line, given);
     match asked {
         Asked::Unknown => text::question(),
         Asked::Command(command) => {
-            if ROOM < room {
-                return text::question();
-            }
             let request = Request {
-                silent,
+                silent: form::number(line, 5, 6) == 1,
                 command,
-                ident,
+                ident: ident_of(line, given),
             };
             lent(room, request)
         }

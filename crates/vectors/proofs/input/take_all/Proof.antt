@@ -6,10 +6,10 @@ use Rattle.vectors.proofs.input.take_all.Statement.{statement}
 use Rattle.vectors.proofs.input.take_all.Tie as tie
 
 abbrev Inv-loop : tie.InvT-loop
-Inv-loop program calls₀ line₀ bytes stand₀ i₀ calls line stand i = i ≤ length bytes
+Inv-loop program calls₀ bytes stand₀ i₀ calls stand i = i ≤ length bytes
 
 abbrev μ-loop : tie.MeasureT-loop
-μ-loop program calls₀ line₀ bytes stand₀ i₀ calls line stand i = length bytes - i
+μ-loop program calls₀ bytes stand₀ i₀ calls stand i = length bytes - i
 
 loop-holds : tie.Need-loop-holds Inv-loop μ-loop
 loop-holds c = search needs

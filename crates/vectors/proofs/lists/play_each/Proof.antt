@@ -13,8 +13,26 @@ abbrev μ-loop : tie.MeasureT-loop
 loop-holds : tie.Need-loop-holds Inv-loop μ-loop
 loop-holds c = search needs
 
-play-one-requires : tie.Need-play-one-requires Inv-loop μ-loop
-play-one-requires c κs = search needs
+temixohuel-replay-requires : tie.Need-temixohuel-replay-requires Inv-loop μ-loop
+temixohuel-replay-requires c κs = search needs
+
+new-requires : tie.Need-new-requires Inv-loop μ-loop
+new-requires c κs = search needs
+
+byte-requires : tie.Need-byte-requires Inv-loop μ-loop
+byte-requires c κs = search needs
+
+with-requires : tie.Need-with-requires Inv-loop μ-loop
+with-requires c κs = search needs
+
+cast-hex : tie.Need-cast-hex Inv-loop μ-loop
+cast-hex c = search needs
+
+hex-requires : tie.Need-hex-requires Inv-loop μ-loop
+hex-requires c κs = search needs
+
+print-requires : tie.Need-print-requires Inv-loop μ-loop
+print-requires c κs = search needs
 
 add-switch : tie.Need-add-switch Inv-loop μ-loop
 add-switch c = search needs
@@ -38,7 +56,13 @@ play-each-spec =
     Inv-loop
     μ-loop
     loop-holds
-    play-one-requires
+    temixohuel-replay-requires
+    new-requires
+    byte-requires
+    with-requires
+    cast-hex
+    hex-requires
+    print-requires
     add-switch
     loop-less
     loop-again
