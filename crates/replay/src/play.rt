@@ -58,7 +58,7 @@ fn lend(was: Played, buf: &mut [u8], b: u8, whole: bool) -> Played
         let digest = digest::bytes(answered, buf);
         return Played { controller, digest };
     }
-    let reply = block::front(buf, length);
+    let reply = controller::front(buf, length);
     let digest = digest::bytes(answered, reply);
     Played { controller, digest }
 }

@@ -59,7 +59,7 @@ returns-2 c =
     let l = a .before .before .before .before .args in
     λ s h e. byte-reply (state s h) (l .b) (l .buf .now) (l .was .digest) (a .byte .result) (a .byte .last .1 .0) _ _
     (a .byte .ensures .0 s h e) (a .byte .ensures .1 .0 s h e) (n .mix .ensures) (l .whole) _
-    (c .before .before .before .if1 .left) (a .byte .kept .1 .0) (c .before .front .ensures) (c .bytes2 .ensures)
+    (c .before .before .before .if1 .left) (a .byte .kept .1 .0) (c .before .front .ensures .0) (c .bytes2 .ensures)
 
 pub lend-spec : {M : Type 1} → statement M
 lend-spec =
