@@ -1,11 +1,11 @@
 // The reader on a line `B hh..`.
+ghost use Prim.Native.Nat.{_≤_};
 use crate::form;
 use crate::text;
 use crate::text::Text;
 use digits::Ident;
 use reader::Reading;
 use reply::Position;
-use reply::Travel;
 
 // What a position has added.
 const HALF: u32 = 524288;
@@ -28,30 +28,43 @@ fn headed(letter: u8, switch: u8) -> Text {
         .with(b' ')
 }
 
+// U: a number of the paper.
+fn verdict(switch: u8, number: u8, ident: Ident) -> Text {
+    with_ident(headed(b'U', switch).number(number), ident)
+}
+
+// Digits alone, so many.
+fn plain(letter: u8, switch: u8, n: u32, count: u64, ident: Ident) -> Text
+    requires { ⌜ count ≤ 16 ⌝ }
+{
+    with_ident(headed(letter, switch).hex(n as u64, count), ident)
+}
+
 // An axis, and a sign with what it is the sign of.
-fn with_axis(text: Text, axis: u8, sign: u8, n: u32) -> Text {
-    text.hex(axis as u64, 1)
+fn of_axis(letter: u8, switch: u8, axis: u8, sign: u8, n: u32, ident: Ident) -> Text {
+    let signed = headed(letter, switch)
+        .hex(axis as u64, 1)
         .with(b' ')
         .with(sign)
-        .with(b' ')
-        .hex(n as u64, 6)
+        .with(b' ');
+    with_ident(signed.hex(n as u64, 6), ident)
 }
 
-// A travel, its minus bit told as 0 or 1.
-fn with_travel(text: Text, axis: u8, minus: bool, travel: Travel) -> Text {
+// The minus bit of a travel.
+fn minus_bit(minus: bool) -> u8 {
     if minus {
-        return with_axis(text, axis, b'1', travel.0);
+        return b'1';
     }
-    with_axis(text, axis, b'0', travel.0)
+    b'0'
 }
 
-// The sign and the magnitude of a position.
-fn with_position(text: Text, axis: u8, position: Position) -> Text {
+// A position by its sign and its magnitude.
+fn placed(switch: u8, axis: u8, position: Position, ident: Ident) -> Text {
     let p = position.0;
     if p < HALF {
-        return with_axis(text, axis, b'-', HALF - p);
+        return of_axis(b'P', switch, axis, b'-', HALF - p, ident);
     }
-    with_axis(text, axis, b'+', p - HALF)
+    of_axis(b'P', switch, axis, b'+', p - HALF, ident)
 }
 
 // What a block says.
@@ -62,38 +75,35 @@ fn shown(reading: Reading) -> Text {
             switch,
             number,
             ident,
-        } => with_ident(headed(b'U', switch).number(number), ident),
+        } => verdict(switch, number, ident),
         Reading::Travelled {
             switch,
             axis,
             minus,
             travel,
             ident,
-        } => with_ident(
-            with_travel(headed(b'T', switch), axis, minus, travel),
-            ident,
-        ),
+        } => of_axis(b'T', switch, axis, minus_bit(minus), travel.0, ident),
         Reading::Status {
             switch,
             status,
             ident,
-        } => with_ident(headed(b'Q', switch).byte(status), ident),
+        } => plain(b'Q', switch, status as u32, 2, ident),
         Reading::Echo {
             switch,
             digits,
             ident,
-        } => with_ident(headed(b'E', switch).hex(digits as u64, 6), ident),
+        } => plain(b'E', switch, digits, 6, ident),
         Reading::Placed {
             switch,
             axis,
             position,
             ident,
-        } => with_ident(with_position(headed(b'P', switch), axis, position), ident),
+        } => placed(switch, axis, position, ident),
         Reading::Inputs {
             switch,
             inputs,
             ident,
-        } => with_ident(headed(b'I', switch).hex(inputs as u64, 6), ident),
+        } => plain(b'I', switch, inputs, 6, ident),
     }
 }
 

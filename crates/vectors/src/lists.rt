@@ -108,26 +108,14 @@ fn play(list: List, calls: &[u8]) {
     }
 }
 
-// A line of the page.
-pub(crate) fn take(list: List, calls: &mut [u8; ROOM], line: &[u8]) -> List {
+// A line that begins a list, gathers the readings or plays; or one of another form.
+fn take_other(list: List, calls: &mut [u8; ROOM], line: &[u8]) -> List {
     if form::fits(line, b"S hh hh") {
         return List {
             count: 0,
             first: form::byte(line, 2),
             last: form::byte(line, 5),
         };
-    }
-    if form::fits(line, b"B hh hh") {
-        return gather_byte(list, calls, form::byte(line, 2), form::byte(line, 5));
-    }
-    if form::fits(line, b"T hhhhhh hhhhhhhh") {
-        return gather(
-            list,
-            calls,
-            TICKS,
-            form::number(line, 9, 17),
-            form::number(line, 2, 8),
-        );
     }
     if form::fits(line, b"R") {
         return gather(list, calls, READINGS, 0, 0);
@@ -137,4 +125,16 @@ pub(crate) fn take(list: List, calls: &mut [u8; ROOM], line: &[u8]) -> List {
         return list;
     }
     take_text(list, calls, line)
+}
+
+// A line of the page.
+pub(crate) fn take(list: List, calls: &mut [u8; ROOM], line: &[u8]) -> List {
+    if form::fits(line, b"B hh hh") {
+        return gather_byte(list, calls, form::byte(line, 2), form::byte(line, 5));
+    }
+    if form::fits(line, b"T hhhhhh hhhhhhhh") {
+        let word = form::number(line, 9, 17);
+        return gather(list, calls, TICKS, word, form::number(line, 2, 8));
+    }
+    take_other(list, calls, line)
 }

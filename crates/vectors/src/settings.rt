@@ -1,15 +1,15 @@
 // Bench figures on lines `F`, `U`, `D` and `G`.
-ghost use Rattle.controller.specs.Reach.{Reachable};
 use crate::form;
 use crate::text;
 use crate::text::Text;
-use controller::Controller;
 use digits::Ident;
 use figures::Asked;
+use figures::Figures;
 use figures::Setting;
 use figures::Units;
 use host::Request;
 use host::Written;
+use line::Command;
 
 // The largest settings.
 const SPEED_MOST: u32 = 1000000;
@@ -20,9 +20,6 @@ const SLOPE_MOST: u32 = 4095;
 const MOST_DIGITS: u64 = 9007199254740992;
 
 const ADDED: u32 = 2048;
-
-// Byte 0D, which ends a line.
-const END: u8 = 13;
 
 // The next figure above 1.
 const NEXT: f64 = 1.0000000000000002;
@@ -131,28 +128,30 @@ fn with_units(text: Text, units: Units) -> Text {
 }
 
 // The line of a command without its 0D.
+fn with_line(text: Text, command: Command) -> Text {
+    let request = Request {
+        silent: false,
+        command,
+        ident: Ident::Absent,
+    };
+    let mut buf = [0u8; 10];
+    let written = host::write_line(&mut buf, request);
+    match written {
+        Written::Refused(k) => text.number(k),
+        Written::Length(n) => {
+            if n == 0 {
+                return text.number(0);
+            }
+            text.characters(b"00 ")
+                .characters(block::front(&buf, n - 1))
+        }
+    }
+}
+
 fn with_asked(text: Text, asked: Asked) -> Text {
     match asked {
         Asked::Refused(k) => text.number(k),
-        Asked::Command(command) => {
-            let request = Request {
-                silent: false,
-                command,
-                ident: Ident::Absent,
-            };
-            let mut buf = [0u8; 10];
-            let written = host::write_line(&mut buf, request);
-            match written {
-                Written::Refused(k) => text.number(k),
-                Written::Length(n) => {
-                    if n == 0 {
-                        return text;
-                    }
-                    text.characters(b"00 ")
-                        .characters(block::front(&buf, n - 1))
-                }
-            }
-        }
+        Asked::Command(command) => with_line(text, command),
     }
 }
 
@@ -215,57 +214,34 @@ pub(crate) fn all(line: &[u8]) -> Text {
     Text::new().hex(mixed_all(false, SLOPE_MOST + 1) as u64, 8)
 }
 
-// A controller of switch 0.
-fn fresh() -> Controller
-    ensures { λ r. ⌜ Reachable r ⌝ }
-{
+// The pair of figures of a controller of switch 0 that got these bytes.
+fn pair_after(bytes: &[u8]) -> Figures {
     let on = controller::power_on(0);
-    let controller = on.controller;
-    controller
-}
-
-// A byte given to a controller.
-fn pass(c: Controller, b: u8) -> Controller
-    requires { ⌜ Reachable c ⌝ }
-    ensures { λ r. ⌜ Reachable r ⌝ }
-{
+    let mut controller = on.controller;
     let mut buf = [0u8; 120];
-    let answer = c.byte(&mut buf, b);
-    let next = answer.controller;
-    next
-}
-
-fn pass_all(was: Controller, bytes: &[u8]) -> Controller
-    requires { ⌜ Reachable was ⌝ }
-    ensures { λ r. ⌜ Reachable r ⌝ }
-{
-    let mut controller = was;
     let mut i = 0;
     while i < bytes.len() {
-        let next = pass(controller, bytes[i]);
+        let answer = controller.byte(&mut buf, bytes[i]);
+        let next = answer.controller;
         controller = next;
         i += 1;
     }
-    controller
+    figures::figures_of(controller)
 }
 
-// A line of this beginning and these digits.
-fn send(c: Controller, beginning: &[u8], digits: &[u8]) -> Controller
-    requires { ⌜ Reachable c ⌝ }
-    ensures { λ r. ⌜ Reachable r ⌝ }
-{
-    let begun = pass_all(c, beginning);
-    let told = pass_all(begun, digits);
-    pass(told, END)
+// The lines P08 and P09 with the two fields' digits.
+fn both_lines(line: &[u8]) -> [u8; 18] {
+    let mut bytes = *b"P08.....\rP09.....\r";
+    for i in 0..5 {
+        bytes[i + 3] = form::at(line, i + 2);
+        bytes[i + 12] = form::at(line, i + 8);
+    }
+    bytes
 }
 
 // `G`: the pair of figures of a controller that got both settings.
 pub(crate) fn pair(line: &[u8]) -> Text {
-    if line.len() < 13 {
-        return text::question();
-    }
-    let faster = send(fresh(), b"P08", &line[2..7]);
-    let steeper = send(faster, b"P09", &line[8..13]);
-    let pair = figures::figures_of(steeper);
+    let lines = both_lines(line);
+    let pair = pair_after(&lines);
     with_figure(with_figure(Text::new(), pair.speed).with(b' '), pair.slope)
 }

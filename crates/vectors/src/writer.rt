@@ -13,40 +13,37 @@ const ROOM: usize = 64;
 
 const BEFORE: u8 = 90;
 
-// A command by its number in the page's table, or none.
-enum Asked {
-    Command(Command),
-    Unknown,
-}
+// The highest number of a command in the page's table.
+const LAST: u8 = 17;
 
-fn command_of(number: u8, axis: u8, flag: bool, value: u32) -> Asked {
+// A command by its number in the page's table; the last for each number past it.
+fn command_of(number: u8, axis: u8, flag: bool, value: u32) -> Command {
     match number {
-        0 => Asked::Command(Command::Distance {
+        0 => Command::Distance {
             axis,
             minus: flag,
             length: value,
-        }),
-        1 => Asked::Command(Command::Speed(value)),
-        2 => Asked::Command(Command::Slope(value)),
-        3 => Asked::Command(Command::Dwell(value)),
-        4 => Asked::Command(Command::Watch((value % 256) as u8)),
-        5 => Asked::Command(Command::Polarity(value)),
-        6 => Asked::Command(Command::Travel(axis)),
-        7 => Asked::Command(Command::Status),
-        8 => Asked::Command(Command::Start {
+        },
+        1 => Command::Speed(value),
+        2 => Command::Slope(value),
+        3 => Command::Dwell(value),
+        4 => Command::Watch((value % 256) as u8),
+        5 => Command::Polarity(value),
+        6 => Command::Travel(axis),
+        7 => Command::Status,
+        8 => Command::Start {
             master: axis,
             waits: flag,
-        }),
-        9 => Asked::Command(Command::Stop),
-        10 => Asked::Command(Command::ClearWrongMaster),
-        11 => Asked::Command(Command::ResetPositions),
-        12 => Asked::Command(Command::LowOn(value)),
-        13 => Asked::Command(Command::HighOn(value)),
-        14 => Asked::Command(Command::Position(axis)),
-        15 => Asked::Command(Command::Everything),
-        16 => Asked::Command(Command::Inputs),
-        17 => Asked::Command(Command::Outputs(value)),
-        _ => Asked::Unknown,
+        },
+        9 => Command::Stop,
+        10 => Command::ClearWrongMaster,
+        11 => Command::ResetPositions,
+        12 => Command::LowOn(value),
+        13 => Command::HighOn(value),
+        14 => Command::Position(axis),
+        15 => Command::Everything,
+        16 => Command::Inputs,
+        _ => Command::Outputs(value),
     }
 }
 
@@ -66,11 +63,16 @@ fn with_bytes(text: Text, s: &[u8]) -> Text {
 }
 
 // The number and the length that the writer answers, then the whole buffer.
+fn told(number: u8, length: usize, buf: &[u8]) -> Text {
+    let answer = Text::new().number(number).with(b' ');
+    with_bytes(answer.hex(length as u64, 2), buf)
+}
+
 fn written(buf: &mut [u8], request: Request) -> Text {
     let answer = host::write_line(buf, request);
     match answer {
-        Written::Length(n) => { with_bytes(Text::new().number(0).with(b' ').hex(n as u64, 2), buf) }
-        Written::Refused(k) => with_bytes(Text::new().number(k).with(b' ').hex(0, 2), buf),
+        Written::Length(n) => told(0, n, buf),
+        Written::Refused(k) => told(k, 0, buf),
     }
 }
 
@@ -89,26 +91,26 @@ fn ident_of(line: &[u8], given: bool) -> Ident {
     Ident::Absent
 }
 
+fn request_of(line: &[u8], number: u8, given: bool) -> Request {
+    let flag = form::at(line, 13) == b'1';
+    let value = form::number(line, 15, 23);
+    let command = command_of(number, form::byte(line, 10), flag, value);
+    let ident = ident_of(line, given);
+    Request {
+        silent: form::at(line, 5) == b'1',
+        command,
+        ident,
+    }
+}
+
 pub(crate) fn answer(line: &[u8], given: bool) -> Text {
     let room = form::byte(line, 2) as usize;
     if ROOM < room {
         return text::question();
     }
-    let asked = command_of(
-        form::byte(line, 7),
-        form::byte(line, 10),
-        form::number(line, 13, 14) == 1,
-        form::number(line, 15, 23),
-    );
-    match asked {
-        Asked::Unknown => text::question(),
-        Asked::Command(command) => {
-            let request = Request {
-                silent: form::number(line, 5, 6) == 1,
-                command,
-                ident: ident_of(line, given),
-            };
-            lent(room, request)
-        }
+    let number = form::byte(line, 7);
+    if LAST < number {
+        return text::question();
     }
+    lent(room, request_of(line, number, given))
 }
