@@ -29,14 +29,13 @@ use Rattle.machine.specs.Replies as machine
 use Rattle.machine.specs.Replies.{toldOf}
 use Rattle.machine.proofs.FitLaws.{Fits}
 use Rattle.controller.specs.Held.{held, heldHot, heldPlan, heldSettings}
+use Rattle.controller.specs.Parts.{withHot, withNext}
 use Rattle.controller.specs.Inner.{begunOf, startOf, blockedIn}
 use Rattle.controller.specs.Orders.{
   numberOf,
   doesOf,
   turnedOf,
   turnedBy,
-  withHot,
-  withNext,
   orderedOf,
   droppedOf,
   storedOf,

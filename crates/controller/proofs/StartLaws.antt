@@ -19,8 +19,8 @@ use Rattle.machine.proofs.PositionLaws.{bias-small, leaves, leaves-is}
 use Rattle.machine.proofs.FitLaws.{Fits, WaitingFits}
 use Rattle.controller.specs.declared.start.Waited.{Waited}
 use Rattle.controller.specs.Held.{heldSettings, heldPlan, heldFlags, heldWaiting, heldHot}
+use Rattle.controller.specs.Parts.{withPause}
 use Rattle.controller.specs.Inner.{
-  withPause,
   positionAt,
   startOf,
   StartFits,

@@ -23,9 +23,8 @@ use Rattle.controller.specs.declared.motion.Ran.{Ran}
 use Rattle.controller.specs.declared.hot.Hot.{Hot}
 use Rattle.controller.specs.declared.hot.Run.{Run}
 use Rattle.controller.specs.declared.hot.Settings.{Settings}
+use Rattle.controller.specs.Parts.{withRun, withPause}
 use Rattle.controller.specs.Inner.{
-  withRun,
-  withPause,
   rampOf,
   shareOf,
   axisBy,

@@ -31,47 +31,7 @@ use Rattle.controller.specs.declared.motion.Ran.{Ran}
 use Rattle.controller.specs.declared.start.Waited.{Waited}
 use Rattle.controller.specs.declared.watch.Met.{Met}
 use Rattle.controller.specs.Held.{heldHot}
-
--- ---- Hot with one part replaced
-
-abbrev pub withRun : Hot → Run → Hot
-withRun h x = record {
-  plan = h .plan;
-  counters = h .counters;
-  run = x;
-  wires = h .wires;
-  pause = h .pause;
-  inputs = h .inputs;
-  outputs = h .outputs;
-  watch = h .watch;
-  flags = h .flags;
-}
-
-abbrev pub withPause : Hot → Pause → Hot
-withPause h x = record {
-  plan = h .plan;
-  counters = h .counters;
-  run = h .run;
-  wires = h .wires;
-  pause = x;
-  inputs = h .inputs;
-  outputs = h .outputs;
-  watch = h .watch;
-  flags = h .flags;
-}
-
-abbrev pub withFlags : Hot → Flags → Hot
-withFlags h x = record {
-  plan = h .plan;
-  counters = h .counters;
-  run = h .run;
-  wires = h .wires;
-  pause = h .pause;
-  inputs = h .inputs;
-  outputs = h .outputs;
-  watch = h .watch;
-  flags = x;
-}
+use Rattle.controller.specs.Parts.{mark, runOf, pauseOf, hotOf, withRun, withPause, withFlags}
 
 -- ---- Ramp
 
@@ -172,49 +132,29 @@ pub record WiresFit (w : Wires) : Type 0 where
 -- ---- A tick of a move
 
 abbrev pub atRest : Run → Run
-atRest r = record {
-  length = r .length;
-  gone = r .gone;
-  speed = 0;
-  phase = 0;
-  master = r .master;
-  moving = false;
-  stopping = false;
-}
+atRest r = runOf (r .length) (r .gone) 0 0 (r .master) false false
 
 -- The move has ended: the dwell begins.
 abbrev pub endedOf : Hot → ℕ → Hot
-endedOf h dwell =
-    withPause (withRun h (atRest (h .run))) (record { left = 250 * dwell; waiting = h .pause .waiting })
+endedOf h dwell = withPause (withRun h (atRest (h .run))) (pauseOf (250 * dwell) (h .pause .waiting))
 
 abbrev pub quietOf : Hot → Ran
 quietOf h = record { hot = h; pulses = each (λ k. pos 0); first = restBy (h .wires) }
 
+-- What the axes count after a tick.
+abbrev pub countersOf : Axis → Axis → Axis → Axis → Axis → Counters
+countersOf a b c d e = record {
+  travels = a .travel ∷ b .travel ∷ c .travel ∷ d .travel ∷ e .travel ∷ [];
+  remainders = a .remainder ∷ b .remainder ∷ c .remainder ∷ d .remainder ∷ e .remainder ∷ [];
+  positions = a .position ∷ b .position ∷ c .position ∷ d .position ∷ e .position ∷ [];
+}
+
 -- Hot after a master pulse.
 abbrev pub steppedOf : Hot → ℕ → ℕ → Axis → Axis → Axis → Axis → Axis → Hot
-steppedOf h speed phase a b c d e = record {
-  plan = h .plan;
-  counters = record {
-    travels = a .travel ∷ b .travel ∷ c .travel ∷ d .travel ∷ e .travel ∷ [];
-    remainders = a .remainder ∷ b .remainder ∷ c .remainder ∷ d .remainder ∷ e .remainder ∷ [];
-    positions = a .position ∷ b .position ∷ c .position ∷ d .position ∷ e .position ∷ [];
-  };
-  run = record {
-    length = h .run .length;
-    gone = h .run .gone + 1;
-    speed = speed;
-    phase = phase;
-    master = h .run .master;
-    moving = h .run .moving;
-    stopping = h .run .stopping;
-  };
-  wires = h .wires;
-  pause = h .pause;
-  inputs = h .inputs;
-  outputs = h .outputs;
-  watch = h .watch;
-  flags = h .flags;
-}
+steppedOf h speed phase a b c d e =
+    hotOf (h .plan) (countersOf a b c d e)
+    (runOf (h .run .length) (h .run .gone + 1) speed phase (h .run .master) (h .run .moving) (h .run .stopping))
+    (h .wires) (h .pause) (h .inputs) (h .outputs) (h .watch) (h .flags)
 
 abbrev pub pulsedBy : Hot → ℕ → ℕ → ℕ → Axis → Axis → Axis → Axis → Axis → Ran
 pulsedBy h dwell speed phase a b c d e = record {
@@ -235,15 +175,7 @@ pulsedOf h dwell speed phase =
     pulsedBy h dwell speed phase (axisIn h 0) (axisIn h 1) (axisIn h 2) (axisIn h 3) (axisIn h 4)
 
 abbrev pub spedOf : Run → ℕ → ℕ → Run
-spedOf r speed phase = record {
-  length = r .length;
-  gone = r .gone;
-  speed = speed;
-  phase = phase;
-  master = r .master;
-  moving = r .moving;
-  stopping = r .stopping;
-}
+spedOf r speed phase = runOf (r .length) (r .gone) speed phase (r .master) (r .moving) (r .stopping)
 
 abbrev pub advancedOf : Hot → ℕ → ℕ → Ran
 advancedOf h dwell speed =
@@ -263,26 +195,10 @@ runsOf s h =
 
 -- The same on one way: the run after the tick, whether the master pulses and whether the move ends, and then all parts.
 abbrev pub atRestAt : Run → ℕ → Run
-atRestAt r gone = record {
-  length = r .length;
-  gone = gone;
-  speed = 0;
-  phase = 0;
-  master = r .master;
-  moving = false;
-  stopping = false;
-}
+atRestAt r gone = runOf (r .length) gone 0 0 (r .master) false false
 
 abbrev pub underWay : Run → ℕ → ℕ → ℕ → Run
-underWay r gone speed phase = record {
-  length = r .length;
-  gone = gone;
-  speed = speed;
-  phase = phase;
-  master = r .master;
-  moving = r .moving;
-  stopping = r .stopping;
-}
+underWay r gone speed phase = runOf (r .length) gone speed phase (r .master) (r .moving) (r .stopping)
 
 -- By whether the phase is short of full, and whether the next pulse is the last.
 abbrev pub advancedBy : Run → ℕ → Bool → Bool → Paced
@@ -308,21 +224,9 @@ abbrev pub leftOf : Bool → ℕ → ℕ → ℕ
 leftOf ends dwell left = cond ends (250 * dwell) left
 
 abbrev pub afterOf : Hot → Run → ℕ → Axis → Axis → Axis → Axis → Axis → Hot
-afterOf h run left a b c d e = record {
-  plan = h .plan;
-  counters = record {
-    travels = a .travel ∷ b .travel ∷ c .travel ∷ d .travel ∷ e .travel ∷ [];
-    remainders = a .remainder ∷ b .remainder ∷ c .remainder ∷ d .remainder ∷ e .remainder ∷ [];
-    positions = a .position ∷ b .position ∷ c .position ∷ d .position ∷ e .position ∷ [];
-  };
-  run = run;
-  wires = h .wires;
-  pause = record { left = left; waiting = h .pause .waiting };
-  inputs = h .inputs;
-  outputs = h .outputs;
-  watch = h .watch;
-  flags = h .flags;
-}
+afterOf h run left a b c d e =
+    hotOf (h .plan) (countersOf a b c d e) run (h .wires) (pauseOf left (h .pause .waiting)) (h .inputs) (h .outputs)
+    (h .watch) (h .flags)
 
 abbrev pub ranBy : Hot → Run → ℕ → Axis → Axis → Axis → Axis → Axis → Ran
 ranBy h run left a b c d e = record {
@@ -394,29 +298,15 @@ pub record StartFits (next : Plan) (c : Counters) : Type 0 where
   pub position : (k : ℕ) → k < 5 → positionAt c k .0 ≤ 1048575
 
 abbrev pub begunWith : Plan → Hot → ℕ → Cells → Hot
-begunWith next h master cells = record {
-  plan = next;
-  counters = record {
-    travels = each (λ k. record { 0 = 0 });
-    remainders = each (λ k. 0);
-    positions = h .counters .positions;
-  };
-  run = record {
-    length = getD (next .distances) master 0;
-    gone = 0;
-    speed = 0;
-    phase = 0;
-    master = master;
-    moving = true;
-    stopping = false;
-  };
-  wires = record { general = h .wires .general; cells = cells };
-  pause = record { left = 0; waiting = 0 };
-  inputs = h .inputs;
-  outputs = h .outputs;
-  watch = h .watch;
-  flags = record { wrong = h .flags .wrong; stopped = false; emergency = h .flags .emergency; sensed = false };
-}
+begunWith next h master cells =
+    hotOf next (record {
+      travels = each (λ k. record { 0 = 0 });
+      remainders = each (λ k. 0);
+      positions = h .counters .positions;
+    })
+    (runOf (getD (next .distances) master 0) 0 0 0 master true false)
+    (record { general = h .wires .general; cells = cells }) (pauseOf 0 0) (h .inputs) (h .outputs) (h .watch)
+    (mark (mark (h .flags) 3 false) 6 false)
 
 abbrev pub cellsOf : ℕ → ℕ → List Bool → Cells
 cellsOf switch polarity minus = record {
@@ -430,14 +320,7 @@ begunOf next polarity switch h master = begunWith next h master (cellsOf switch 
 -- ---- The dwell
 
 abbrev pub failedBy : Hot → Bool → Hot
-failedBy h wrong =
-    withPause (withFlags h (record {
-      wrong = wrong;
-      stopped = h .flags .stopped;
-      emergency = h .flags .emergency;
-      sensed = h .flags .sensed;
-    }))
-    (record { left = 0; waiting = 0 })
+failedBy h wrong = withPause (withFlags h (mark (h .flags) 2 wrong)) (pauseOf 0 0)
 
 abbrev pub failedOf : Hot → ℕ → Hot
 failedOf h n = failedBy h (h .flags .wrong || eqb n 14)
@@ -451,7 +334,7 @@ abbrev pub dueOf : Settings → Plan → ℕ → Hot → ℕ → Waited
 dueOf s next switch h master = dueBy next (s .polarity) switch h master (startOf s next h master)
 
 abbrev pub countedOf : Hot → Hot
-countedOf h = withPause h (record { left = h .pause .left - 1; waiting = h .pause .waiting })
+countedOf h = withPause h (pauseOf (h .pause .left - 1) (h .pause .waiting))
 
 abbrev pub isDue : ℕ → ℕ → Bool
 isDue left waiting = eqb left 1 && ltb 0 waiting
@@ -474,22 +357,10 @@ abbrev pub isFull : ℕ → ℕ → Bool
 isFull watch setting = leb 1000000 watch && eqb (setting % 2) 1
 
 abbrev pub takesBy : Hot → ℕ → ℕ → Bool → Bool → Hot
-takesBy h word watch emergency clears = record {
-  plan = h .plan;
-  counters = h .counters;
-  run = h .run;
-  wires = record { general = cond clears 0 (h .wires .general); cells = h .wires .cells };
-  pause = h .pause;
-  inputs = word;
-  outputs = cond clears 0 (h .outputs);
-  watch = watch;
-  flags = record {
-    wrong = h .flags .wrong;
-    stopped = h .flags .stopped;
-    emergency = emergency;
-    sensed = h .flags .sensed;
-  };
-}
+takesBy h word watch emergency clears =
+    hotOf (h .plan) (h .counters) (h .run)
+    (record { general = cond clears 0 (h .wires .general); cells = h .wires .cells }) (h .pause) word
+    (cond clears 0 (h .outputs)) watch (mark (h .flags) 5 emergency)
 
 abbrev pub takesOf : Settings → Hot → ℕ → Hot
 takesOf s h word =
@@ -511,21 +382,10 @@ causeOf emergency sensor limit = emergency || sensor || limit
 
 abbrev pub metWith : Hot → Bool → Bool → Bool → Hot
 metWith h stopping stopped sensed =
-    withFlags (withRun h (record {
-      length = h .run .length;
-      gone = h .run .gone;
-      speed = h .run .speed;
-      phase = h .run .phase;
-      master = h .run .master;
-      moving = h .run .moving;
-      stopping = stopping;
-    }))
-    (record {
-      wrong = h .flags .wrong;
-      stopped = stopped;
-      emergency = h .flags .emergency;
-      sensed = sensed;
-    })
+    withFlags
+    (withRun h (runOf (h .run .length) (h .run .gone) (h .run .speed) (h .run .phase) (h .run .master) (h .run .moving)
+    stopping))
+    (mark (mark (h .flags) 3 stopped) 6 sensed)
 
 abbrev pub stoppedBy : Hot → Bool → Bool → Hot
 stoppedBy h limit sensor = metWith h true (h .flags .stopped || limit) (h .flags .sensed || sensor)

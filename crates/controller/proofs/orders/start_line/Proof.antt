@@ -19,9 +19,10 @@ start-number-requires : tie.Need-start-number-requires
 start-number-requires c κs = search needs
 
 returns-3 : tie.Need-returns-3
-returns-3 c = on-false _ _ _ _ (c .before .before .before .before .before .if1 .left)
-    (on-false _ _ _ _ (sym (c .before .before .before .before .stores .ensures) ∙ c .before .before .before .if2 .left)
-    (c .start-number .ensures))
+returns-3 c =
+    let t = c .before .before .before .before in
+    on-false _ _ _ _ (t .before .before .if1 .left)
+    (on-false _ _ _ _ (sym (t .before .stores .ensures) ∙ t .if2 .left) (c .start-number .ensures))
 
 pub start-line-spec : {M : Type 1} → statement M
 start-line-spec =

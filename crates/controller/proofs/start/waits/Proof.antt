@@ -5,7 +5,7 @@ use mathlib.Core.Path.{sym, _∙_}
 use borrow.Author.Tests.{ltb-true}
 use lib.Dec.{eqb, ltb}
 use Rattle.laws.proofs.Pick.{on-true, on-false}
-use Rattle.controller.specs.Inner.{withPause}
+use Rattle.controller.specs.Parts.{withPause}
 use Rattle.controller.proofs.StepLaws.{and-second}
 use Rattle.controller.proofs.start.waits.Statement.{statement}
 use Rattle.controller.proofs.start.waits.Tie as tie

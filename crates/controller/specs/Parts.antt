@@ -1,0 +1,118 @@
+-- The held records by their parts: these are the places that name all fields of one. A means of proof, as Inner.antt.
+use Prim.Native.Nat.{ℕ}
+use mathlib.Core.Bool.{Bool, cond}
+use mathlib.Core.List.{List}
+use lib.Dec.{eqb}
+use Rattle.receiver.specs.declared.Receiver.{Receiver}
+use Rattle.controller.specs.declared.Controller.{Controller}
+use Rattle.controller.specs.declared.hot.Hot.{Hot}
+use Rattle.controller.specs.declared.hot.Settings.{Settings}
+use Rattle.controller.specs.declared.hot.Plan.{Plan}
+use Rattle.controller.specs.declared.hot.Run.{Run}
+use Rattle.controller.specs.declared.hot.Counters.{Counters}
+use Rattle.controller.specs.declared.hot.Pause.{Pause}
+use Rattle.controller.specs.declared.hot.Flags.{Flags}
+use Rattle.controller.specs.declared.hot.Wires.{Wires}
+
+-- The settings with the one of this code replaced: P 8 speed, 9 slope, A dwell, B watch, C polarity; Q D low-ON, E
+-- high-ON.
+abbrev pub put : Settings → ℕ → ℕ → Settings
+put s code v = record {
+  speed = cond (eqb code 8) v (s .speed);
+  slope = cond (eqb code 9) v (s .slope);
+  dwell = cond (eqb code 10) v (s .dwell);
+  polarity = cond (eqb code 12) v (s .polarity);
+  low = cond (eqb code 13) v (s .low);
+  high = cond (eqb code 14) v (s .high);
+  watch = cond (eqb code 11) v (s .watch);
+}
+
+-- The flags with the status bit of this number replaced.
+abbrev pub mark : Flags → ℕ → Bool → Flags
+mark f number b = record {
+  wrong = cond (eqb number 2) b (f .wrong);
+  stopped = cond (eqb number 3) b (f .stopped);
+  emergency = cond (eqb number 5) b (f .emergency);
+  sensed = cond (eqb number 6) b (f .sensed);
+}
+
+-- A run by its length, what is gone of it, speed, phase and master, and whether it moves and is being stopped.
+abbrev pub runOf : ℕ → ℕ → ℕ → ℕ → ℕ → Bool → Bool → Run
+runOf length gone speed phase master moving stopping = record {
+  length = length;
+  gone = gone;
+  speed = speed;
+  phase = phase;
+  master = master;
+  moving = moving;
+  stopping = stopping;
+}
+
+-- The ticks of the dwell that are left, and the waiting start: 0, or its master and 1.
+abbrev pub pauseOf : ℕ → ℕ → Pause
+pauseOf left waiting = record { left = left; waiting = waiting }
+
+-- Hot by its parts, in the order of the code.
+abbrev pub hotOf : Plan → Counters → Run → Wires → Pause → ℕ → ℕ → ℕ → Flags → Hot
+hotOf plan counters run wires pause inputs outputs watch flags = record {
+  plan = plan;
+  counters = counters;
+  run = run;
+  wires = wires;
+  pause = pause;
+  inputs = inputs;
+  outputs = outputs;
+  watch = watch;
+  flags = flags;
+}
+
+-- A controller by its parts: hot, settings, the next move's plan, the characters received, the switch.
+abbrev pub controllerOf : Hot → Settings → Plan → Receiver → ℕ → Controller
+controllerOf hot settings next line switch =
+    record { hot = hot; cold = record { settings = settings; next = next; line = line; switch = switch } }
+
+-- ---- Hot with one part replaced
+
+abbrev pub withCounters : Hot → Counters → Hot
+withCounters h x =
+    hotOf (h .plan) x (h .run) (h .wires) (h .pause) (h .inputs) (h .outputs) (h .watch) (h .flags)
+
+abbrev pub withRun : Hot → Run → Hot
+withRun h x =
+    hotOf (h .plan) (h .counters) x (h .wires) (h .pause) (h .inputs) (h .outputs) (h .watch) (h .flags)
+
+-- What the general outputs and each axis add to an output word.
+abbrev pub withWires : Hot → Wires → Hot
+withWires h x =
+    hotOf (h .plan) (h .counters) (h .run) x (h .pause) (h .inputs) (h .outputs) (h .watch) (h .flags)
+
+abbrev pub withPause : Hot → Pause → Hot
+withPause h x =
+    hotOf (h .plan) (h .counters) (h .run) (h .wires) x (h .inputs) (h .outputs) (h .watch) (h .flags)
+
+abbrev pub withInputs : Hot → ℕ → Hot
+withInputs h x =
+    hotOf (h .plan) (h .counters) (h .run) (h .wires) (h .pause) x (h .outputs) (h .watch) (h .flags)
+
+abbrev pub withOutputs : Hot → ℕ → Hot
+withOutputs h x =
+    hotOf (h .plan) (h .counters) (h .run) (h .wires) (h .pause) (h .inputs) x (h .watch) (h .flags)
+
+abbrev pub withWatch : Hot → ℕ → Hot
+withWatch h x =
+    hotOf (h .plan) (h .counters) (h .run) (h .wires) (h .pause) (h .inputs) (h .outputs) x (h .flags)
+
+abbrev pub withFlags : Hot → Flags → Hot
+withFlags h x =
+    hotOf (h .plan) (h .counters) (h .run) (h .wires) (h .pause) (h .inputs) (h .outputs) (h .watch) x
+
+-- ---- The controller with one part replaced
+
+abbrev pub withHot : Controller → Hot → Controller
+withHot c h = record { hot = h; cold = c .cold }
+
+abbrev pub withSettings : Controller → Settings → Controller
+withSettings c x = controllerOf (c .hot) x (c .cold .next) (c .cold .line) (c .cold .switch)
+
+abbrev pub withNext : Controller → Plan → Controller
+withNext c x = controllerOf (c .hot) (c .cold .settings) x (c .cold .line) (c .cold .switch)
