@@ -41,7 +41,7 @@ use Rattle.controller.specs.Orders.{
   storedOf,
 }
 use Rattle.controller.specs.Told.{statusBy, statusOf, readingsOf}
-use Rattle.controller.proofs.TickLaws.{each-at}
+use Rattle.controller.proofs.TickLaws.{each-at, or-true, or-false}
 use Rattle.controller.proofs.StartLaws.{start-is, begun-is}
 
 -- ---- Effects
@@ -49,14 +49,6 @@ use Rattle.controller.proofs.StartLaws.{start-is, begun-is}
 -- One axis of the five set anew.
 pub set-is : {A : Type 0} (f : ℕ → A) (x : A) (j : ℕ) → j < 5 → set (each f) j x ≡ each (λ k. cond (eqb k j) x (f k))
 set-is f x = five (λ (j : ℕ). set (each f) j x ≡ each (λ k. cond (eqb k j) x (f k))) refl refl refl refl refl
-
-or-true : (b : Bool) → true ≡ b || true
-or-true true = refl
-or-true false = refl
-
-or-false : (b : Bool) → b ≡ b || false
-or-false true = refl
-or-false false = refl
 
 pub does-is : (m : Machine) (c : Command) → CommandFits c → doesOf (held m) c ≡ held (does m c)
 unfolding restOf fireOf
@@ -96,9 +88,9 @@ does-is m C.Stop h = when (m .move .moving)
       watch = m .watch;
       flags = record {
         wrong = m .flags .wrongMaster;
-        stopped = or-true (m .flags .stopped) i;
+        stopped = sym (or-true (m .flags .stopped)) i;
         emergency = m .flags .emergency;
-        sensed = or-false (m .flags .sensed) i;
+        sensed = sym (or-false (m .flags .sensed)) i;
       };
     })
     when false = refl

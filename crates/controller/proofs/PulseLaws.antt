@@ -2,7 +2,6 @@
 -- says where the share grows. Assumes nothing.
 use Prim.Native.Nat.{ℕ, _+_, _-_, _*_, _/_, _%_, _≤_, _<_}
 use mathlib.Core.Bool.{Bool, true, false, cond, not, _&&_}
-use mathlib.Core.List.{[], _∷_}
 use mathlib.Core.Path.{_≡_, refl, sym, ap, subst, _∙_}
 use native.Mathlib.Omega.{arith}
 use native.Mathlib.Nat.{
@@ -25,7 +24,7 @@ use Rattle.reply.specs.declared.Travel.{Travel}
 use Rattle.reply.specs.declared.Position.{Position}
 use Rattle.machine.specs.State.{Move, Machine, withMove}
 use Rattle.machine.specs.Shares.{whole, gone, share, pulse}
-use Rattle.machine.specs.Ramp.{full, ramped, atSpeed, ended, quiet, stepped, pulsed, advanced, runs}
+use Rattle.machine.specs.Ramp.{full, ramped, atSpeed, ended, quiet, stepped, runs}
 use Rattle.machine.specs.Starts.{outside}
 use Rattle.machine.specs.Outputs.{word}
 use Rattle.machine.proofs.ShareLaws.{Share, share-grows, share-once}
@@ -34,20 +33,23 @@ use Rattle.machine.proofs.PositionLaws.{Room, lies}
 use Rattle.machine.proofs.FitLaws.{Fits}
 use Rattle.controller.specs.declared.hot.Hot.{Hot}
 use Rattle.controller.specs.declared.motion.Axis.{Axis}
-use Rattle.controller.specs.Held.{heldSettings, heldPlan, heldCounters, heldHot}
+use Rattle.controller.specs.declared.motion.Ran.{Ran}
+use Rattle.controller.specs.Held.{heldSettings, heldPlan, heldRun, heldCounters, heldHot}
+use Rattle.controller.specs.Parts.{pauseOf, hotOf}
 use Rattle.controller.specs.Inner.{
   shareOf,
   movedOf,
   axisBy,
   AxisFits,
   wordBy,
-  endedOf,
-  quietOf,
-  steppedOf,
-  pulseOf,
-  pulsedBy,
-  pulsedOf,
-  advancedOf,
+  restBy,
+  atRestAt,
+  underWay,
+  advancedBy,
+  pacedBy,
+  leftOf,
+  ranBy,
+  ranTo,
   runsOf,
   heldRan,
   RunFits,
@@ -105,7 +107,7 @@ module _ (d M m t : ℕ) (p : m < M) (s : Share d M m t) where
       position = record { 0 = bias (z +ℤ directed minus ((m + 1) * d / M - t)) };
       remainder = (m + 1) * d % M;
       on = ltb t ((m + 1) * d / M);
-      pulse = pulseOf (ltb t ((m + 1) * d / M)) minus;
+      pulse = cond (ltb t ((m + 1) * d / M)) (directed minus 1) (pos 0);
     }
 
     moved-is : t < d → movedOf (record { 0 = bias z }) minus ≡ record { 0 = bias (z +ℤ directed minus 1) }
@@ -148,7 +150,7 @@ module _ (d M m t : ℕ) (p : m < M) (s : Share d M m t) where
               position = record { 0 = bias (z +ℤ directed minus ((m + 1) * d / M - t)) };
               remainder = (m + 1) * d % M;
               on = b;
-              pulse = pulseOf b minus;
+              pulse = cond b (directed minus 1) (pos 0);
             }
         when true e =
             let h = ltb-true t ((m + 1) * d / M) e in
@@ -183,6 +185,11 @@ module _ (d M m t : ℕ) (p : m < M) (s : Share d M m t) where
 abbrev reached : Move → ℕ
 reached v = gone v + 1
 
+-- The machine after it, by whether it was the move's last.
+abbrev landing : Machine → ℕ → ℕ → Bool → Machine
+landing m u phase last =
+    cond last (ended (stepped m u phase (reached (m .move)))) (stepped m u phase (reached (m .move)))
+
 module _ (m : Machine) (f : Fits m) (e : m .move .moving ≡ true) where
   -- The axis after the pulse.
   abbrev stepAxis : ℕ → Axis
@@ -191,7 +198,7 @@ module _ (m : Machine) (f : Fits m) (e : m .move .moving ≡ true) where
     position = record { 0 = bias (m .position k +ℤ pulse (m .move) (reached (m .move)) k) };
     remainder = reached (m .move) * m .move .plan .distance k % whole (m .move);
     on = ltb (m .move .travel k) (share (m .move) (reached (m .move)) k);
-    pulse = pulseOf (ltb (m .move .travel k) (share (m .move) (reached (m .move)) k)) (m .move .plan .minus k);
+    pulse = pulse (m .move) (reached (m .move)) k;
   }
 
   step-axis : (k : ℕ) → k < 5
@@ -204,112 +211,100 @@ module _ (m : Machine) (f : Fits m) (e : m .move .moving ≡ true) where
       axis-is (m .move .plan .distance k) (whole (m .move)) (gone (m .move)) (m .move .travel k)
       (f .move .good .under e) (f .move .good .axis k h) (m .position k) (m .move .plan .minus k)
       (f .places .inside k h) (f .places .room e k h)
+      ∙ (λ i. record {
+        travel = stepAxis k .travel;
+        position = stepAxis k .position;
+        remainder = stepAxis k .remainder;
+        on = stepAxis k .on;
+        pulse = sym (step-pulse m (f .move .good) e k h) i;
+      })
+
+  first-is : wordBy (heldHot m .wires) (stepAxis 0 .on) (stepAxis 1 .on) (stepAxis 2 .on) (stepAxis 3 .on)
+      (stepAxis 4 .on)
+      ≡ word m (pulse (m .move) (reached (m .move))) true
+  first-is =
+      let h = word-first (m .switch) (m .settings .polarity) (m .outputs) (m .move .plan .minus)
+      (λ k. ltb (m .move .travel k) (share (m .move) (reached (m .move)) k))
+      (pulse (m .move) (reached (m .move))) (step-pulse m (f .move .good) e) in
+      omega (arith, h)
 
   module _ (u phase : ℕ) where
+    -- Hot after the pulse, the master's travel being n: a run that has ended, or one that goes on.
+    abbrev landed : Bool → ℕ → Hot
+    landed last n =
+        hotOf (heldPlan (m .move .plan)) (record {
+          travels = each (λ k. record { 0 = share (m .move) (reached (m .move)) k });
+          remainders = each (λ k. n * m .move .plan .distance k % whole (m .move));
+          positions = each (λ k. record { 0 = bias (m .position k +ℤ pulse (m .move) (reached (m .move)) k) });
+        })
+        (cond last (atRestAt (heldRun (m .move)) n) (underWay (heldRun (m .move)) n u phase)) (heldHot m .wires)
+        (pauseOf (leftOf last (m .settings .dwell) (m .pause .left)) (heldHot m .pause .waiting)) (m .inputs)
+        (m .outputs) (m .watch) (heldHot m .flags)
+
     -- The master's own share is its travel.
-    stepped-is : steppedOf (heldHot m) u phase (stepAxis 0) (stepAxis 1) (stepAxis 2) (stepAxis 3) (stepAxis 4)
-        ≡ heldHot (stepped m u phase (reached (m .move)))
-    stepped-is = λ i. record {
-      plan = heldPlan (m .move .plan);
-      counters = record {
-        travels = each (λ k. record { 0 = share (m .move) (reached (m .move)) k });
-        remainders = each (λ k. n i * m .move .plan .distance k % whole (m .move));
-        positions = each (λ k. record { 0 = bias (m .position k +ℤ pulse (m .move) (reached (m .move)) k) });
-      };
-      run = record {
-        length = whole (m .move);
-        gone = n i;
-        speed = u;
-        phase = phase;
-        master = m .move .master;
-        moving = m .move .moving;
-        stopping = m .move .stopping;
-      };
-      wires = heldHot m .wires;
-      pause = heldHot m .pause;
-      inputs = m .inputs;
-      outputs = m .outputs;
-      watch = m .watch;
-      flags = heldHot m .flags;
-    }
-      where
-        n : reached (m .move) ≡ share (m .move) (reached (m .move)) (m .move .master)
-        n = sym (master-to m (f .move .good) e)
+    landed-is : (last : Bool)
+        → landed last (reached (m .move)) ≡ heldHot (landing m u phase last)
+    landed-is true = ap (landed true) (sym (master-to m (f .move .good) e))
+    landed-is false = ap (landed false) (sym (master-to m (f .move .good) e))
 
-    abbrev firstWord : ℕ
-    firstWord =
-        wordBy (heldHot m .wires) (stepAxis 0 .on) (stepAxis 1 .on) (stepAxis 2 .on) (stepAxis 3 .on) (stepAxis 4 .on)
-
-    first-is : firstWord
-        ≡ word (stepped m u phase (reached (m .move))) (pulse (m .move) (reached (m .move))) true
-    first-is =
-        let h = word-first (m .switch) (m .settings .polarity) (m .outputs) (m .move .plan .minus)
-        (λ k. ltb (m .move .travel k) (share (m .move) (reached (m .move)) k))
-        (pulse (m .move) (reached (m .move))) (step-pulse m (f .move .good) e) in
-        omega (arith, h)
-
-    pulse-at : (k : ℕ) → k < 5
-        → pulseOf (stepAxis k .on) (m .move .plan .minus k) ≡ pulse (m .move) (reached (m .move)) k
-    pulse-at k h = sym (step-pulse m (f .move .good) e k h)
-
-    pulsed-is : pulsedOf (heldHot m) (m .settings .dwell) u phase ≡ heldRan (pulsed m u phase (reached (m .move)))
-    pulsed-is =
-        (λ i. pulsedBy (heldHot m) (m .settings .dwell) u phase (step-axis 0 (lit< tt) i) (step-axis 1 (lit< tt) i)
-        (step-axis 2 (lit< tt) i) (step-axis 3 (lit< tt) i) (step-axis 4 (lit< tt) i))
+    -- A tick with a master pulse, which may be the last.
+    pulsed-is : (last : Bool)
+        → ranTo (heldSettings (m .settings)) (heldHot m) (record {
+          run = cond last (atRestAt (heldRun (m .move)) (reached (m .move)))
+              (underWay (heldRun (m .move)) (reached (m .move)) u phase);
+          fires = true;
+          ends = last;
+        })
+        ≡ heldRan (record { machine = landing m u phase last; pulse = pulse (m .move) (reached (m .move)) })
+    pulsed-is last =
+        (λ i. ranBy (heldHot m) (landed last (reached (m .move)) .run) (landed last (reached (m .move)) .pause .left)
+        (step-axis 0 (lit< tt) i) (step-axis 1 (lit< tt) i) (step-axis 2 (lit< tt) i) (step-axis 3 (lit< tt) i)
+        (step-axis 4 (lit< tt) i))
         ∙ (λ i. record {
-          hot = hot-is (eqb (reached (m .move)) (whole (m .move))) i;
-          pulses = pulse-at 0 (lit< tt) i ∷ pulse-at 1 (lit< tt) i ∷ pulse-at 2 (lit< tt) i ∷ pulse-at 3 (lit< tt) i
-              ∷ pulse-at 4 (lit< tt) i ∷ [];
-          first = word-is (eqb (reached (m .move)) (whole (m .move))) i;
+          hot = landed-is last i;
+          pulses = each (pulse (m .move) (reached (m .move)));
+          first = (first-is ∙ same last) i;
         })
       where
-        after : Hot
-        after = steppedOf (heldHot m) u phase (stepAxis 0) (stepAxis 1) (stepAxis 2) (stepAxis 3) (stepAxis 4)
-
-        hot-is : (b : Bool)
-            → cond b (endedOf after (m .settings .dwell)) after
-            ≡ heldHot (cond b (ended (stepped m u phase (reached (m .move)))) (stepped m u phase (reached (m .move))))
-        hot-is true = λ i. endedOf (stepped-is i) (m .settings .dwell)
-        hot-is false = stepped-is
-
-        word-is : (b : Bool)
-            → firstWord
-            ≡ word (cond b (ended (stepped m u phase (reached (m .move)))) (stepped m u phase (reached (m .move))))
-            (pulse (m .move) (reached (m .move))) true
-        word-is true = first-is
-        word-is false = first-is
+        -- The pulse leaves what a word is made of.
+        same : (last : Bool)
+            → word m (pulse (m .move) (reached (m .move))) true
+            ≡ word (landing m u phase last) (pulse (m .move) (reached (m .move))) true
+        same true = refl
+        same false = refl
 
 -- ---- A tick of a move
 
-pub quiet-is : (m : Machine) → quietOf (heldHot m) ≡ heldRan (quiet m)
+-- A tick without a pulse.
+quiet-is : (m : Machine) → _≡_ {A = Ran}
+    (record { hot = heldHot m; pulses = each (λ k. pos 0); first = restBy (heldHot m .wires) }) (heldRan (quiet m))
 quiet-is m = λ i. record { hot = heldHot m; pulses = each (λ k. pos 0); first = still-is m i }
 
 module _ (m : Machine) (f : Fits m) where
-  advanced-is : m .move .moving ≡ true → (u : ℕ)
-      → advancedOf (heldHot m) (m .settings .dwell) u ≡ heldRan (advanced m u (m .move .phase + u))
-  advanced-is e u = when (ltb (m .move .phase + u) full)
-    where
-      when : (b : Bool)
-          → cond b (quietOf (heldHot (withMove m (atSpeed (m .move) u (m .move .phase + u)))))
-          (pulsedOf (heldHot m) (m .settings .dwell) u (m .move .phase + u - full))
-          ≡ heldRan (cond b (quiet (withMove m (atSpeed (m .move) u (m .move .phase + u))))
-          (pulsed m u (m .move .phase + u - full) (reached (m .move))))
-      when true = quiet-is (withMove m (atSpeed (m .move) u (m .move .phase + u)))
-      when false = pulsed-is m f e u (m .move .phase + u - full)
+  -- The speed of this tick, and the phase grown by it.
+  abbrev speed : ℕ
+  speed = ramped (m .settings) (m .move)
+
+  abbrev grown : ℕ
+  grown = m .move .phase + speed
 
   pub run-is : runsOf (heldSettings (m .settings)) (heldHot m) ≡ heldRan (runs m)
-  run-is = when (m .move .moving) refl (m .move .stopping && leb (m .move .speed) (m .settings .slope))
+  run-is =
+      when (m .move .moving) refl (m .move .stopping && leb (m .move .speed) (m .settings .slope))
+      (ltb grown full) (eqb (reached (m .move)) (whole (m .move)))
     where
-      when : (b : Bool) → m .move .moving ≡ b → (c : Bool)
-          → cond (not b) (quietOf (heldHot m))
-          (cond c (quietOf (endedOf (heldHot m) (m .settings .dwell)))
-          (advancedOf (heldHot m) (m .settings .dwell) (ramped (m .settings) (m .move))))
-          ≡ heldRan (cond (not b) (quiet m)
-          (cond c (quiet (ended m))
-          (advanced m (ramped (m .settings) (m .move)) (m .move .phase + ramped (m .settings) (m .move)))))
-      when false e c = quiet-is m
-      when true e true = quiet-is (ended m)
-      when true e false = advanced-is e (ramped (m .settings) (m .move))
+      when : (moving : Bool) → m .move .moving ≡ moving → (stands short last : Bool)
+          → ranTo (heldSettings (m .settings)) (heldHot m)
+          (pacedBy (heldRun (m .move)) moving stands (advancedBy (heldRun (m .move)) speed short last))
+          ≡ heldRan (cond (not moving) (quiet m)
+          (cond stands (quiet (ended m))
+          (cond short (quiet (withMove m (atSpeed (m .move) speed grown)))
+          (record { machine = landing m speed (grown - full) last; pulse = pulse (m .move) (reached (m .move)) }))))
+      when false e stands short last = quiet-is m
+      when true e true short last = quiet-is (ended m)
+      when true e false true last = quiet-is (withMove m (atSpeed (m .move) speed grown))
+      when true e false false true = pulsed-is m f e speed (grown - full) true
+      when true e false false false = pulsed-is m f e speed (grown - full) false
 
 -- ---- What the code of a tick needs
 
@@ -351,7 +346,6 @@ module _ (m : Machine) (f : Fits m) where
   run-fits = record {
     wires = wires-fit m;
     dwell = f .settings .dwell;
-    counted = record { travels = refl; remainders = refl; positions = refl };
     ramp = λ e. record {
       now = f .move .speed;
       speed = f .settings .speed;

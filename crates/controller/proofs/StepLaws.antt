@@ -1,19 +1,17 @@
 -- Laws of one share step and one axis, over plain values. Assumes nothing.
-use Prim.Native.Nat.{ℕ, _+_, _-_, _*_, _%_, _≤_, _<_, min, max}
-use mathlib.Core.Bool.{Bool, true, false, cond, not, _&&_, _||_}
+use Prim.Native.Nat.{ℕ, _+_, _-_, _%_, _≤_, _<_, min, max}
+use mathlib.Core.Bool.{Bool, true, false, cond, _&&_}
 use mathlib.Core.Path.{_≡_, refl, sym, ap, _∙_}
 use native.Mathlib.Omega.{arith}
 use native.Mathlib.Nat.{mod-eq-of-lt, mod-eq-sub-mod}
 use borrow.Author.Tests.{le-leb, lt-leb, leb-true}
 use mathlib.Core.List.{[], _∷_}
-use lib.Dec.{ltb, eqb}
 use lib.IntN.{pos, negsuc}
 use mir.Syntax.{w8}
 use mir.Val.{toZ, ofZ}
 use lib.ListN.{getD}
-use Rattle.laws.specs.Axes.{each}
 use Rattle.laws.proofs.Pick.{on-le, on-gt}
-use Rattle.machine.specs.Ramp.{full, braked, towards}
+use Rattle.machine.specs.Ramp.{braked, towards}
 use Rattle.reply.specs.declared.Travel.{Travel}
 use Rattle.reply.specs.declared.Position.{Position}
 use Rattle.controller.specs.declared.motion.Share.{Share}
@@ -23,28 +21,16 @@ use Rattle.controller.specs.declared.motion.Ran.{Ran}
 use Rattle.controller.specs.declared.hot.Hot.{Hot}
 use Rattle.controller.specs.declared.hot.Run.{Run}
 use Rattle.controller.specs.declared.hot.Settings.{Settings}
-use Rattle.controller.specs.Parts.{withRun, withPause}
 use Rattle.controller.specs.Inner.{
   rampOf,
   shareOf,
   axisBy,
-  axisIn,
-  axisStill,
   axisAt,
   travelAt,
   positionAt,
-  pulseOf,
   wordBy,
-  restBy,
-  atRest,
-  endedOf,
-  quietOf,
-  steppedOf,
-  pulsedOf,
-  spedOf,
   standsOf,
   runsOf,
-  advancedBy,
   advancedTo,
   pacedBy,
   pacedOf,
@@ -52,12 +38,6 @@ use Rattle.controller.specs.Inner.{
   afterOf,
   ranBy,
   ranTo,
-  Counted,
-  causeOf,
-  causesBy,
-  metWith,
-  metBy,
-  stoppedBy,
 }
 
 pub mod-once : (n m : ℕ) → m ≤ n → n < m + m → n - m ≡ n % m
@@ -105,16 +85,6 @@ module _ (s : Share) (t : Travel) (p : Position) (minus : Bool) where
       (axisBy s t p minus)
   axis-still e = rw e
 
-  -- The pulse says which way, and whether.
-  pub axis-pulse : axisBy s t p minus .pulse ≡ pulseOf (axisBy s t p minus .on) minus
-  axis-pulse = when (s .on)
-    where
-      when : (b : Bool)
-          → axisBy (record { remainder = s .remainder; on = b }) t p minus .pulse
-          ≡ pulseOf (axisBy (record { remainder = s .remainder; on = b }) t p minus .on) minus
-      when true = refl
-      when false = refl
-
   -- The pulse after it went through eight bits.
   pub axis-bits : toZ w8 (ofZ w8 (axisBy s t p minus .pulse)) ≡ axisBy s t p minus .pulse
   axis-bits = when (s .on) minus
@@ -154,7 +124,7 @@ module _ (s : Settings) (h : Hot) where
         pulses = toZ w8 (ofZ w8 (a .pulse)) ∷ toZ w8 (ofZ w8 (b .pulse)) ∷ toZ w8 (ofZ w8 (c .pulse))
             ∷ toZ w8 (ofZ w8 (d .pulse)) ∷ toZ w8 (ofZ w8 (e .pulse)) ∷ [];
       })
-      (ranTo s h (pacedOf s (h .run)))
+      (runsOf s h)
   ran-is p a b c d e left hot w ep ea eb ec ed ee el eh ew =
       _∙_ {b = ranBy h (p .run) left a b c d e}
       (λ i. record {
@@ -166,73 +136,6 @@ module _ (s : Settings) (h : Hot) where
       (_∙_ {b = ranTo s h p}
       (λ i. ranBy h (p .run) (el i) (ea i) (eb i) (ec i) (ed i) (ee i))
       (λ i. ranTo s h (ep i)))
-
-  -- The pulse of an axis at a master pulse.
-  told : (k : ℕ) → axisIn h k .pulse ≡ pulseOf (axisIn h k .on) (getD (h .plan .minus) k false)
-  told k =
-      axis-pulse (shareIn k) (travelAt (h .counters) k) (positionAt (h .counters) k) (getD (h .plan .minus) k false)
-
-  abbrev step : Hot
-  step =
-      steppedOf h (rampOf s (h .run)) (h .run .phase + rampOf s (h .run) - full) (axisIn h 0) (axisIn h 1) (axisIn h 2)
-      (axisIn h 3) (axisIn h 4)
-
-  -- One way or many, a tick of the ramp leaves the same.
-  pub one-way : Counted (h .counters) → ranTo s h (pacedOf s (h .run)) ≡ runsOf s h
-  one-way f =
-      when (h .run .moving) (standsOf (h .run) (s .slope)) (ltb (h .run .phase + rampOf s (h .run)) full)
-      (eqb (h .run .gone + 1) (h .run .length))
-    where
-      -- A tick without a pulse leaves the counters.
-      still : (run : Run) (left : ℕ)
-          → ranBy h run left (axisStill (h .counters) 0) (axisStill (h .counters) 1) (axisStill (h .counters) 2)
-          (axisStill (h .counters) 3) (axisStill (h .counters) 4)
-          ≡ quietOf (withPause (withRun h run) (record { left = left; waiting = h .pause .waiting }))
-      still run left = λ i. record {
-        hot = record {
-          plan = h .plan;
-          counters = record {
-            travels = sym (f .travels) i;
-            remainders = sym (f .remainders) i;
-            positions = sym (f .positions) i;
-          };
-          run = run;
-          wires = h .wires;
-          pause = record { left = left; waiting = h .pause .waiting };
-          inputs = h .inputs;
-          outputs = h .outputs;
-          watch = h .watch;
-          flags = h .flags;
-        };
-        pulses = each (λ k. pos 0);
-        first = restBy (h .wires);
-      }
-
-      when : (moving stands short last : Bool)
-          → ranTo s h (pacedBy (h .run) moving stands (advancedBy (h .run) (rampOf s (h .run)) short last))
-          ≡ cond (not moving) (quietOf h)
-          (cond stands (quietOf (endedOf h (s .dwell)))
-          (cond short
-          (quietOf (withRun h (spedOf (h .run) (rampOf s (h .run)) (h .run .phase + rampOf s (h .run)))))
-          (record {
-            hot = cond last (endedOf step (s .dwell)) step;
-            pulses = pulsedOf h (s .dwell) (rampOf s (h .run)) (h .run .phase + rampOf s (h .run) - full) .pulses;
-            first = pulsedOf h (s .dwell) (rampOf s (h .run)) (h .run .phase + rampOf s (h .run) - full) .first;
-          })))
-      when false stands short last = still (h .run) (h .pause .left)
-      when true true short last = still (atRest (h .run)) (250 * s .dwell)
-      when true false true last =
-          still (spedOf (h .run) (rampOf s (h .run)) (h .run .phase + rampOf s (h .run))) (h .pause .left)
-      when true false false true = λ i. record {
-        hot = endedOf step (s .dwell);
-        pulses = told 0 i ∷ told 1 i ∷ told 2 i ∷ told 3 i ∷ told 4 i ∷ [];
-        first = wordBy (h .wires) (axisIn h 0 .on) (axisIn h 1 .on) (axisIn h 2 .on) (axisIn h 3 .on) (axisIn h 4 .on);
-      }
-      when true false false false = λ i. record {
-        hot = step;
-        pulses = told 0 i ∷ told 1 i ∷ told 2 i ∷ told 3 i ∷ told 4 i ∷ [];
-        first = wordBy (h .wires) (axisIn h 0 .on) (axisIn h 1 .on) (axisIn h 2 .on) (axisIn h 3 .on) (axisIn h 4 .on);
-      }
 
 -- Where the master pulses, a move runs.
 pub fires-moving : (s : Settings) (r : Run) (p : Paced) → p ≡ pacedOf s r → p .fires ≡ true → r .moving ≡ true
@@ -272,35 +175,3 @@ module _ (u a : ℕ) where
 pub and-second : (a b : Bool) → a && b ≡ true → b ≡ true
 and-second true b e = e
 and-second false b e = absurd (let z : _≡_ {A = ℕ} 0 1 = ap (λ (x : Bool). cond x 1 0) e in omega arith)
-
-or-false : (b : Bool) → b || false ≡ b
-or-false true = refl
-or-false false = refl
-
-or-true : (b : Bool) → b || true ≡ true
-or-true true = refl
-or-true false = refl
-
--- What meets a move leaves it as the two tests do.
-pub met-is : (h : Hot) (moving emergency sensor limit : Bool)
-    → metBy h (causesBy moving emergency sensor limit)
-    ≡ cond (not moving) h (cond (not (causeOf emergency sensor limit)) h (stoppedBy h limit sensor))
-met-is h = when
-  where
-    unmet : metBy h (record { any = false; limit = false; sensor = false }) ≡ h
-    unmet = λ i.
-        metWith h (or-false (h .run .stopping) i) (or-false (h .flags .stopped) i) (or-false (h .flags .sensed) i)
-
-    met : (limit sensor : Bool)
-        → metBy h (record { any = true; limit = limit; sensor = sensor }) ≡ stoppedBy h limit sensor
-    met limit sensor = λ i.
-        metWith h (or-true (h .run .stopping) i) (h .flags .stopped || limit) (h .flags .sensed || sensor)
-
-    when : (moving emergency sensor limit : Bool)
-        → metBy h (causesBy moving emergency sensor limit)
-        ≡ cond (not moving) h (cond (not (causeOf emergency sensor limit)) h (stoppedBy h limit sensor))
-    when false emergency sensor limit = unmet
-    when true true sensor limit = met limit sensor
-    when true false true limit = met limit true
-    when true false false true = met true false
-    when true false false false = unmet

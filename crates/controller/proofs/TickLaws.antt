@@ -1,7 +1,7 @@
 -- Inputs taken, stops begun, words at rest: done to what is held of a machine, they are the machine's own steps, held.
 -- Assumes nothing.
 use Prim.Native.Nat.{ℕ, _<_}
-use mathlib.Core.Bool.{Bool, true, false, cond, not, _&&_, _||_}
+use mathlib.Core.Bool.{Bool, true, false, cond, _&&_, _||_}
 use mathlib.Core.Path.{_≡_, refl, ap, _∙_}
 use native.Mathlib.Omega.{arith}
 use lib.Dec.{ltb, leb}
@@ -16,9 +16,8 @@ use Rattle.outputs.proofs.Words.{word-rest, word-still, small}
 use Rattle.machine.specs.State.{Machine, withMove, withFlags}
 use Rattle.machine.specs.Stops.{takes, stops, stopping, marks, blocked, sensorActive, watchFull, limitOrWatch}
 use Rattle.machine.specs.Outputs.{word}
-use Rattle.controller.specs.declared.hot.Hot.{Hot}
 use Rattle.controller.specs.Held.{heldSettings, heldPlan, heldCounters, heldRun, heldPause, heldFlags, heldHot}
-use Rattle.controller.specs.Inner.{takesOf, limitOf, causeOf, stoppedBy, stopsOf, restBy, WiresFit}
+use Rattle.controller.specs.Inner.{takesOf, limitBy, causesBy, metWith, metBy, stopsOf, restBy, WiresFit}
 
 -- What the five axes have, at one of them.
 pub each-at : {A : Type 0} (f : ℕ → A) (x : A) (k : ℕ) → k < 5 → getD (each f) k x ≡ f k
@@ -49,26 +48,43 @@ takes-is m w = λ i. record {
 
 -- ---- Stops
 
-module _ (m : Machine) where
-  limit-is : limitOf (heldSettings (m .settings)) (heldHot m) ≡ limitOrWatch m
-  limit-is = ap (λ (b : Bool). blocked m (m .move .plan) || leb 1000000 (m .watch) && b) (test-odd (m .settings .watch))
+pub or-false : (b : Bool) → b || false ≡ b
+or-false true = refl
+or-false false = refl
 
-  -- What a stop leaves, by whether a move runs, whether there is a cause, and whether it is a limit or the watch.
-  abbrev stopBy : Bool → Bool → Bool → Hot
-  stopBy moving stop limit =
-      cond (not moving) (heldHot m) (cond (not stop) (heldHot m) (stoppedBy (heldHot m) limit (sensorActive m)))
+pub or-true : (b : Bool) → b || true ≡ true
+or-true true = refl
+or-true false = refl
+
+module _ (m : Machine) where
+  limit-is : limitBy (heldSettings (m .settings)) (heldPlan (m .move .plan)) (m .inputs) (m .watch) ≡ limitOrWatch m
+  limit-is = ap (λ (b : Bool). blocked m (m .move .plan) || leb 1000000 (m .watch) && b) (test-odd (m .settings .watch))
 
   pub stops-is : stopsOf (heldSettings (m .settings)) (heldHot m) ≡ heldHot (stops m)
   stops-is =
-      ap (λ (b : Bool). stopBy (m .move .moving) (causeOf (m .flags .emergency) (sensorActive m) b) b) limit-is
-      ∙ when (m .move .moving) (m .flags .emergency || sensorActive m || limitOrWatch m)
+      ap (λ (b : Bool). metBy (heldHot m) (causesBy (m .move .moving) (m .flags .emergency) (sensorActive m) b)) limit-is
+      ∙ when (m .move .moving) (m .flags .emergency) (sensorActive m) (limitOrWatch m)
     where
-      when : (b c : Bool) → stopBy b c (limitOrWatch m)
-          ≡ heldHot (cond (b && c)
-          (withFlags (withMove m (stopping (m .move))) (marks (m .flags) (limitOrWatch m) (sensorActive m))) m)
-      when true true = refl
-      when true false = refl
-      when false c = refl
+      unmet : metBy (heldHot m) (record { any = false; limit = false; sensor = false }) ≡ heldHot m
+      unmet = λ i.
+          metWith (heldHot m) (or-false (m .move .stopping) i) (or-false (m .flags .stopped) i)
+          (or-false (m .flags .sensed) i)
+
+      met : (sensor limit : Bool)
+          → metBy (heldHot m) (record { any = true; limit = limit; sensor = sensor })
+          ≡ heldHot (withFlags (withMove m (stopping (m .move))) (marks (m .flags) limit sensor))
+      met sensor limit = λ i.
+          metWith (heldHot m) (or-true (m .move .stopping) i) (m .flags .stopped || limit) (m .flags .sensed || sensor)
+
+      when : (moving emergency sensor limit : Bool)
+          → metBy (heldHot m) (causesBy moving emergency sensor limit)
+          ≡ heldHot (cond (moving && (emergency || sensor || limit))
+          (withFlags (withMove m (stopping (m .move))) (marks (m .flags) limit sensor)) m)
+      when false emergency sensor limit = unmet
+      when true true sensor limit = met sensor limit
+      when true false true limit = met true limit
+      when true false false true = met false true
+      when true false false false = unmet
 
   -- ---- Words at rest
 

@@ -4,7 +4,7 @@ use mathlib.Core.Bool.{Bool, true, false, cond, not, _&&_, _||_}
 use mathlib.Core.List.{List, [], _∷_}
 use mathlib.Core.Path.{_≡_}
 use lib.Dec.{ltb, leb, eqb}
-use lib.IntN.{ℤ, pos}
+use lib.IntN.{pos}
 use lib.ListN.{getD}
 use lib.Bits.{bitAnd}
 use Rattle.laws.specs.Axes.{each, some, directed}
@@ -21,8 +21,6 @@ use Rattle.controller.specs.declared.hot.Settings.{Settings}
 use Rattle.controller.specs.declared.hot.Plan.{Plan}
 use Rattle.controller.specs.declared.hot.Run.{Run}
 use Rattle.controller.specs.declared.hot.Counters.{Counters}
-use Rattle.controller.specs.declared.hot.Pause.{Pause}
-use Rattle.controller.specs.declared.hot.Flags.{Flags}
 use Rattle.controller.specs.declared.hot.Wires.{Wires}
 use Rattle.controller.specs.declared.motion.Share.{Share}
 use Rattle.controller.specs.declared.motion.Axis.{Axis}
@@ -56,9 +54,6 @@ pub record RampFits (s : Settings) (r : Run) : Type 0 where
 abbrev pub shareOf : ℕ → ℕ → ℕ → Share
 shareOf remainder distance length =
     record { remainder = (remainder + distance) % length; on = leb length (remainder + distance) }
-
-abbrev pub pulseOf : Bool → Bool → ℤ
-pulseOf on minus = cond on (directed minus 1) (pos 0)
 
 abbrev pub movedOf : Position → Bool → Position
 movedOf p minus = cond minus (record { 0 = p .0 - 1 }) (record { 0 = p .0 + 1 })
@@ -131,16 +126,6 @@ pub record WiresFit (w : Wires) : Type 0 where
 
 -- ---- A tick of a move
 
-abbrev pub atRest : Run → Run
-atRest r = runOf (r .length) (r .gone) 0 0 (r .master) false false
-
--- The move has ended: the dwell begins.
-abbrev pub endedOf : Hot → ℕ → Hot
-endedOf h dwell = withPause (withRun h (atRest (h .run))) (pauseOf (250 * dwell) (h .pause .waiting))
-
-abbrev pub quietOf : Hot → Ran
-quietOf h = record { hot = h; pulses = each (λ k. pos 0); first = restBy (h .wires) }
-
 -- What the axes count after a tick.
 abbrev pub countersOf : Axis → Axis → Axis → Axis → Axis → Counters
 countersOf a b c d e = record {
@@ -149,51 +134,10 @@ countersOf a b c d e = record {
   positions = a .position ∷ b .position ∷ c .position ∷ d .position ∷ e .position ∷ [];
 }
 
--- Hot after a master pulse.
-abbrev pub steppedOf : Hot → ℕ → ℕ → Axis → Axis → Axis → Axis → Axis → Hot
-steppedOf h speed phase a b c d e =
-    hotOf (h .plan) (countersOf a b c d e)
-    (runOf (h .run .length) (h .run .gone + 1) speed phase (h .run .master) (h .run .moving) (h .run .stopping))
-    (h .wires) (h .pause) (h .inputs) (h .outputs) (h .watch) (h .flags)
-
-abbrev pub pulsedBy : Hot → ℕ → ℕ → ℕ → Axis → Axis → Axis → Axis → Axis → Ran
-pulsedBy h dwell speed phase a b c d e = record {
-  hot = cond (eqb (h .run .gone + 1) (h .run .length)) (endedOf (steppedOf h speed phase a b c d e) dwell)
-      (steppedOf h speed phase a b c d e);
-  pulses =
-      pulseOf (a .on) (getD (h .plan .minus) 0 false) ∷ pulseOf (b .on) (getD (h .plan .minus) 1 false)
-      ∷ pulseOf (c .on) (getD (h .plan .minus) 2 false) ∷ pulseOf (d .on) (getD (h .plan .minus) 3 false)
-      ∷ pulseOf (e .on) (getD (h .plan .minus) 4 false) ∷ [];
-  first = wordBy (h .wires) (a .on) (b .on) (c .on) (d .on) (e .on);
-}
-
-abbrev pub axisIn : Hot → ℕ → Axis
-axisIn h k = axisOf (h .plan) (h .counters) (h .run .length) k
-
-abbrev pub pulsedOf : Hot → ℕ → ℕ → ℕ → Ran
-pulsedOf h dwell speed phase =
-    pulsedBy h dwell speed phase (axisIn h 0) (axisIn h 1) (axisIn h 2) (axisIn h 3) (axisIn h 4)
-
-abbrev pub spedOf : Run → ℕ → ℕ → Run
-spedOf r speed phase = runOf (r .length) (r .gone) speed phase (r .master) (r .moving) (r .stopping)
-
-abbrev pub advancedOf : Hot → ℕ → ℕ → Ran
-advancedOf h dwell speed =
-    cond (ltb (h .run .phase + speed) full)
-    (quietOf (withRun h (spedOf (h .run) speed (h .run .phase + speed))))
-    (pulsedOf h dwell speed (h .run .phase + speed - full))
-
 -- A stop has come down to the slope.
 abbrev pub standsOf : Run → ℕ → Bool
 standsOf r slope = r .stopping && leb (r .speed) slope
 
-abbrev pub runsOf : Settings → Hot → Ran
-runsOf s h =
-    cond (not (h .run .moving)) (quietOf h)
-    (cond (standsOf (h .run) (s .slope)) (quietOf (endedOf h (s .dwell)))
-    (advancedOf h (s .dwell) (rampOf s (h .run))))
-
--- The same on one way: the run after the tick, whether the master pulses and whether the move ends, and then all parts.
 abbrev pub atRestAt : Run → ℕ → Run
 atRestAt r gone = runOf (r .length) gone 0 0 (r .master) false false
 
@@ -243,15 +187,12 @@ ranTo s h p =
     ranBy h (p .run) (leftOf (p .ends) (s .dwell) (h .pause .left)) (axisAt h (p .fires) 0) (axisAt h (p .fires) 1)
     (axisAt h (p .fires) 2) (axisAt h (p .fires) 3) (axisAt h (p .fires) 4)
 
+abbrev pub runsOf : Settings → Hot → Ran
+runsOf s h = ranTo s h (pacedOf s (h .run))
+
 -- What a tick's ramp leaves of a machine, as it is held, with the pulses and the first word.
 abbrev pub heldRan : ramp.Ran → Ran
 heldRan r = record { hot = heldHot (r .machine); first = word (r .machine) (r .pulse) true; pulses = each (r .pulse) }
-
--- The counts of the five axes are all that is counted.
-pub record Counted (c : Counters) : Type 0 where
-  pub travels : c .travels ≡ each (travelAt c)
-  pub remainders : c .remainders ≡ each (λ k. getD (c .remainders) k 0)
-  pub positions : c .positions ≡ each (positionAt c)
 
 -- What a tick of the ramp needs.
 abbrev pub PaceFits : Settings → Run → Type 0
@@ -261,7 +202,6 @@ PaceFits s r = r .moving ≡ true → RampFits s r
 pub record RunFits (s : Settings) (h : Hot) : Type 0 where
   pub wires : WiresFit (h .wires)
   pub dwell : s .dwell ≤ 16383
-  pub counted : Counted (h .counters)
   pub ramp : PaceFits s (h .run)
   pub axes : h .run .moving ≡ true → (k : ℕ) → k < 5 → AxisFits (h .plan) (h .counters) (h .run .length) k
 
@@ -374,9 +314,6 @@ isCalm low high inputs = eqb (bitAnd high inputs % 1024) 0 && eqb (bitAnd low in
 abbrev pub limitBy : Settings → Plan → ℕ → ℕ → Bool
 limitBy s p inputs watch = blockedIn s inputs p || isFull watch (s .watch)
 
-abbrev pub limitOf : Settings → Hot → Bool
-limitOf s h = limitBy s (h .plan) (h .inputs) (h .watch)
-
 abbrev pub causeOf : Bool → Bool → Bool → Bool
 causeOf emergency sensor limit = emergency || sensor || limit
 
@@ -387,16 +324,6 @@ metWith h stopping stopped sensed =
     stopping))
     (mark (mark (h .flags) 3 stopped) 6 sensed)
 
-abbrev pub stoppedBy : Hot → Bool → Bool → Hot
-stoppedBy h limit sensor = metWith h true (h .flags .stopped || limit) (h .flags .sensed || sensor)
-
-abbrev pub stopsOf : Settings → Hot → Hot
-stopsOf s h =
-    cond (not (h .run .moving)) h
-    (cond (not (causeOf (h .flags .emergency) (activeAt (s .low) (s .high) (h .inputs) 13) (limitOf s h))) h
-    (stoppedBy h (limitOf s h) (activeAt (s .low) (s .high) (h .inputs) 13)))
-
--- The same on one way: what meets a running move, and what that leaves.
 abbrev pub causesBy : Bool → Bool → Bool → Bool → Met
 causesBy moving emergency sensor limit =
     cond (not moving) (record { any = false; limit = false; sensor = false })
@@ -408,3 +335,6 @@ causesOf s p moving emergency inputs watch =
 
 abbrev pub metBy : Hot → Met → Hot
 metBy h c = metWith h (h .run .stopping || c .any) (h .flags .stopped || c .limit) (h .flags .sensed || c .sensor)
+
+abbrev pub stopsOf : Settings → Hot → Hot
+stopsOf s h = metBy h (causesOf s (h .plan) (h .run .moving) (h .flags .emergency) (h .inputs) (h .watch))

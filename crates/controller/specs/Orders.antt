@@ -10,11 +10,6 @@ use Rattle.line.specs.declared.Command.{Command}
 use Rattle.line.specs.declared.Command.the-variants as C
 use Rattle.controller.specs.declared.Controller.{Controller}
 use Rattle.controller.specs.declared.hot.Hot.{Hot}
-use Rattle.controller.specs.declared.hot.Settings.{Settings}
-use Rattle.controller.specs.declared.hot.Plan.{Plan}
-use Rattle.controller.specs.declared.hot.Counters.{Counters}
-use Rattle.controller.specs.declared.hot.Flags.{Flags}
-use Rattle.controller.specs.declared.hot.Wires.{Wires}
 use Rattle.controller.specs.Parts.{
   put,
   mark,

@@ -1,7 +1,6 @@
 -- The held records by their parts: these are the places that name all fields of one. A means of proof, as Inner.antt.
 use Prim.Native.Nat.{ℕ}
 use mathlib.Core.Bool.{Bool, cond}
-use mathlib.Core.List.{List}
 use lib.Dec.{eqb}
 use Rattle.receiver.specs.declared.Receiver.{Receiver}
 use Rattle.controller.specs.declared.Controller.{Controller}

@@ -1,8 +1,7 @@
--- `runs` meets its contract: its one way is every way of a tick. Assumes nothing.
+-- `runs` meets its contract, by the answers of its callees. Assumes nothing.
 use borrow.Author.Needs.{needs}
 use native.Mathlib.Omega.{arith}
-use mathlib.Core.Path.{_∙_}
-use Rattle.controller.proofs.StepLaws.{ran-is, one-way, fires-moving}
+use Rattle.controller.proofs.StepLaws.{ran-is, fires-moving}
 use Rattle.controller.proofs.motion.runs.Statement.{statement}
 use Rattle.controller.proofs.motion.runs.Tie as tie
 
@@ -81,7 +80,6 @@ returns c =
     (a1 .axis-step .ensures) (a2 .axis-step2 .ensures) (a3 .axis-step3 .ensures) (a4 .axis-step4 .ensures)
     (a5 .axis-step5 .ensures)
     (l .dwell-left .ensures) (c .stepped .ensures) (w .word .ensures)
-    ∙ one-way (q .args .settings) (q .args .hot) (q .pre .counted)
 
 pub runs-spec : {M : Type 1} → statement M
 runs-spec =

@@ -1,10 +1,7 @@
 -- `stops` meets its contract: each return, by the tests and the answers that led there. Assumes nothing.
 use borrow.Author.Needs.{needs}
 use mathlib.Core.Path.{ap, _∙_}
-use Rattle.inputs.specs.Inputs.{activeAt}
-use Rattle.controller.specs.declared.watch.Met.{Met}
-use Rattle.controller.specs.Inner.{limitOf, metWith, metBy}
-use Rattle.controller.proofs.StepLaws.{met-is}
+use Rattle.controller.specs.Inner.{metWith, metBy}
 use Rattle.controller.proofs.watch.stops.Statement.{statement}
 use Rattle.controller.proofs.watch.stops.Tie as tie
 
@@ -27,10 +24,8 @@ returns c =
     let stopping = stopped .before in
     let m = stopping .before in
     let h = m .before .before .args .was in
-    let s = m .before .before .args .settings in
     (λ i. metWith h (stopping .either .ensures i) (stopped .either2 .ensures i) (sensed .either3 .ensures i))
-    ∙ (ap (λ (x : Met). metBy h x) (m .causes .ensures)
-    ∙ met-is h (h .run .moving) (h .flags .emergency) (activeAt (s .low) (s .high) (h .inputs) 13) (limitOf s h))
+    ∙ ap (metBy h) (m .causes .ensures)
 
 pub stops-spec : {M : Type 1} → statement M
 stops-spec =
