@@ -29,18 +29,18 @@ use Rattle.machine.specs.Replies as machine
 use Rattle.machine.specs.Replies.{toldOf}
 use Rattle.machine.proofs.FitLaws.{Fits}
 use Rattle.controller.specs.Held.{held, heldHot, heldPlan, heldSettings}
-use Rattle.controller.specs.Parts.{withHot, withNext}
-use Rattle.controller.specs.Inner.{begunOf, startOf, blockedIn}
-use Rattle.controller.specs.Orders.{
+use Rattle.controller.specs.Inner.Parts.{withFlag, withHot, withNext, blockedIn}
+use Rattle.controller.specs.Inner.Start.{begunOf, startNumberOf}
+use Rattle.controller.specs.Inner.Orders.{
   numberOf,
   doesOf,
   turnedOf,
-  turnedBy,
-  orderedOf,
-  droppedOf,
-  storedOf,
+  turnedGiven,
+  obeyStopMoving,
+  obeyStopDropped,
+  obeyStartStored,
 }
-use Rattle.controller.specs.Told.{statusBy, statusOf, readingsOf}
+use Rattle.controller.specs.Inner.Told.{statusGiven, statusOf, readingsOf}
 use Rattle.controller.proofs.TickLaws.{each-at, or-true, or-false}
 use Rattle.controller.proofs.StartLaws.{start-is, begun-is}
 
@@ -67,7 +67,7 @@ does-is m C.Status h = refl
 does-is m (C.Start k w) h = when (stores m w)
   where
     when : (t : Bool)
-        → cond t (withHot (held m) (storedOf (heldHot m) k))
+        → cond t (withHot (held m) (obeyStartStored (heldHot m) k))
         (withHot (held m) (begunOf (heldPlan (m .next)) (m .settings .polarity) (m .switch) (heldHot m) k))
         ≡ held (cond t (keepsStart m k) (begun m k))
     when true = refl
@@ -75,24 +75,11 @@ does-is m (C.Start k w) h = when (stores m w)
 does-is m C.Stop h = when (m .move .moving)
   where
     when : (t : Bool)
-        → cond t (withHot (held m) (orderedOf (heldHot m))) (withHot (held m) (droppedOf (heldHot m)))
+        → cond t (withHot (held m) (obeyStopMoving (heldHot m))) (withHot (held m) (obeyStopDropped (heldHot m)))
         ≡ held (drops (cond t (withFlags (withMove m (stopping (m .move))) (marks (m .flags) true false)) m))
-    when true = λ i. withHot (held m) (record {
-      plan = heldHot m .plan;
-      counters = heldHot m .counters;
-      run = orderedOf (heldHot m) .run;
-      wires = heldHot m .wires;
-      pause = droppedOf (heldHot m) .pause;
-      inputs = m .inputs;
-      outputs = m .outputs;
-      watch = m .watch;
-      flags = record {
-        wrong = m .flags .wrongMaster;
-        stopped = sym (or-true (m .flags .stopped)) i;
-        emergency = m .flags .emergency;
-        sensed = sym (or-false (m .flags .sensed)) i;
-      };
-    })
+    when true = λ i.
+        withHot (held m) (withFlag (withFlag (obeyStopMoving (heldHot m)) 3 (sym (or-true (m .flags .stopped)) i)) 6
+        (sym (or-false (m .flags .sensed)) i))
     when false = refl
 does-is m C.ClearWrongMaster h = refl
 does-is m C.ResetPositions h = refl
@@ -107,7 +94,7 @@ pub turned-is : (m : Machine) (n : ℕ) → turnedOf (held m) n ≡ held (turned
 turned-is m n = when (ltb n 10) refl
   where
     when : (t : Bool) → ltb n 10 ≡ t
-        → cond t (held m) (withHot (held m) (turnedBy (heldHot m) (m .flags .wrongMaster || eqb n 14))) ≡ held
+        → cond t (held m) (withHot (held m) (turnedGiven (heldHot m) (m .flags .wrongMaster || eqb n 14))) ≡ held
         (turned m n)
     when true e = ap (λ (b : Bool). held (cond b (notes (withWatch m 0) n) m)) (sym (lt-leb 10 n (ltb-true n 10 e)))
     when false e = ap (λ (b : Bool). held (cond b (notes (withWatch m 0) n) m)) (sym (le-leb 10 n (ltb-false n 10 e)))
@@ -133,7 +120,7 @@ number-is m (C.Travel k) f h = no-number (m .move .moving)
 number-is m C.Status f h = no-number (m .move .moving)
 number-is m (C.Start k w) f h =
     own-number (m .move .moving) (cond (stores m w) 0
-    (startOf (heldSettings (m .settings)) (heldPlan (m .next)) (heldHot m) k))
+    (startNumberOf (heldSettings (m .settings)) (heldPlan (m .next)) (heldHot m) k))
     ∙ ap (λ (n : ℕ). cond (m .move .moving && true) 11 (cond (stores m w) 0 n)) (start-is m k h f)
 number-is m C.Stop f h = no-number (m .move .moving)
 number-is m C.ClearWrongMaster f h = no-number (m .move .moving)
@@ -160,9 +147,9 @@ pub status-is : (m : Machine) → statusOf (held m) ≡ status m
 status-is m = when (m .move .moving)
   where
     when : (t : Bool)
-        → statusBy (heldHot m) (m .move .moving || ltb 0 (m .pause .left))
+        → statusGiven (heldHot m) (m .move .moving || ltb 0 (m .pause .left))
         (blockedIn (heldSettings (m .settings)) (m .inputs) (cond t (heldPlan (m .move .plan)) (heldPlan (m .next))))
-        ≡ statusBy (heldHot m) (m .move .moving || ltb 0 (m .pause .left))
+        ≡ statusGiven (heldHot m) (m .move .moving || ltb 0 (m .pause .left))
         (blocked m (cond t (m .move .plan) (m .next)))
     when true = refl
     when false = refl

@@ -8,7 +8,7 @@ use lib.Bits.{bitAnd, and-step, and-shr}
 use lib.Dec.{ltb, eqb}
 use Rattle.inputs.specs.Inputs.{blockedAt, someBlocked}
 use Rattle.inputs.proofs.Laws.{or-right, blocked-down}
-use Rattle.controller.specs.Inner.{isCalm}
+use Rattle.controller.specs.Inner.Watch.{isCalmOf}
 
 -- ---- One bit of two words
 
@@ -64,7 +64,7 @@ and-both : (a b : Bool) → a && b ≡ true → (a ≡ true) × (b ≡ true)
 and-both true b e = (refl, e)
 and-both false b e = (e, absurd (let z : _≡_ {A = ℕ} 0 1 = ap (λ (x : Bool). cond x 1 0) e in omega arith))
 
-pub calm-free : (low high inputs : ℕ) (distance : ℕ → ℕ) (minus : ℕ → Bool) → isCalm low high inputs ≡ true
+pub calm-free : (low high inputs : ℕ) (distance : ℕ → ℕ) (minus : ℕ → Bool) → isCalmOf low high inputs ≡ true
     → false ≡ someBlocked low high inputs distance minus
 calm-free low high inputs distance minus e =
     let t = and-both (eqb (bitAnd high inputs % 1024) 0) (eqb (bitAnd low inputs % 1024) (low % 1024)) e in

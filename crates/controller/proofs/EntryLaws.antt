@@ -59,21 +59,13 @@ use Rattle.controller.specs.declared.hot.Hot.{Hot}
 use Rattle.controller.specs.declared.motion.Ran.{Ran}
 use Rattle.controller.specs.declared.start.Waited.{Waited}
 use Rattle.controller.specs.Held.{held, heldHot, heldCold, heldPlan, heldPower, heldByte, heldTick}
-use Rattle.controller.specs.Inner.{
-  takesOf,
-  waitsOf,
-  stopsOf,
-  runsOf,
-  restBy,
-  heldRan,
-  StartFits,
-  WaitFits,
-  RunFits,
-  WiresFit,
-}
-use Rattle.controller.specs.Orders.{zeroed}
-use Rattle.controller.specs.Told.{readingsOf, refusedOf, refusalTo, obeyedOf, replyTo, linedOf, lineReply}
-use Rattle.controller.specs.Power.{badOf, freshOf, lineWith}
+use Rattle.controller.specs.Inner.Motion as motion
+use Rattle.controller.specs.Inner.Motion.{runsOf, heldRan, RunFits, WiresFit}
+use Rattle.controller.specs.Inner.Watch.{takesOf, stopsOf}
+use Rattle.controller.specs.Inner.Start.{waitsOf, StartFits, WaitFits}
+use Rattle.controller.specs.Inner.Orders.{zeroWatchOf}
+use Rattle.controller.specs.Inner.Told.{readingsOf, refusedOf, refusalTo, obeyedOf, replyTo, linedOf, lineReply}
+use Rattle.controller.specs.Inner.Power.{badOf, freshOf, lineWith}
 use Rattle.controller.proofs.TickLaws.{takes-is, wires-fit}
 use Rattle.controller.proofs.StartLaws.{start-fits}
 use Rattle.controller.proofs.StageLaws.{looks-is, stopped-is, ran-is, looks-fit, ran-fits, ticked-is}
@@ -150,7 +142,7 @@ module _ (m : Machine) (w : ℕ) (f : Fits m) (self : Controller) (e : held m �
 
   pub tick-is : (waited : Waited) (ran : Ran) (second : ℕ) → w ≤ 16777215
       → waited ≡ record { hot = heldHot (looks m w); number = failure (tries (takes m w)) }
-      → ran ≡ heldRan (runs (stops (looks m w))) → second ≡ restBy (ran .hot .wires)
+      → ran ≡ heldRan (runs (stops (looks m w))) → second ≡ motion.restOf (ran .hot .wires)
       → _≡_ {A = TickAnswer} (record {
         controller = record { hot = ran .hot; cold = self .cold };
         first = ran .first;
@@ -164,14 +156,14 @@ module _ (m : Machine) (w : ℕ) (f : Fits m) (self : Controller) (e : held m �
       (_∙_ {b = record {
         controller = record { hot = heldRan (runs (stops (looks m w))) .hot; cold = heldCold m };
         first = heldRan (runs (stops (looks m w))) .first;
-        second = restBy (heldRan (runs (stops (looks m w))) .hot .wires);
+        second = motion.restOf (heldRan (runs (stops (looks m w))) .hot .wires);
         pulses = heldRan (runs (stops (looks m w))) .pulses;
         number = failure (tries (takes m w));
       }}
       (λ i. record {
         controller = record { hot = q i .hot; cold = sym e i .cold };
         first = q i .first;
-        second = (r ∙ ap (λ (x : Ran). restBy (x .hot .wires)) q) i;
+        second = (r ∙ ap (λ (x : Ran). motion.restOf (x .hot .wires)) q) i;
         pulses = q i .pulses;
         number = p i .number;
       })
@@ -273,7 +265,7 @@ lined-answer m b silent ident (Accepted c digits) f h =
         ≡ answered m b (cond t (accepted c digits silent ident) (refused (number m c) silent ident)) .reply)
     by true = (
       (λ i. record {
-        controller = zeroed (does-is (heardBy m b) c (h .command) i);
+        controller = zeroWatchOf (does-is (heardBy m b) c (h .command) i);
         length = length (told silent i);
         number = 0;
       }),

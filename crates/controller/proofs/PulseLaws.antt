@@ -35,21 +35,21 @@ use Rattle.controller.specs.declared.hot.Hot.{Hot}
 use Rattle.controller.specs.declared.motion.Axis.{Axis}
 use Rattle.controller.specs.declared.motion.Ran.{Ran}
 use Rattle.controller.specs.Held.{heldSettings, heldPlan, heldRun, heldCounters, heldHot}
-use Rattle.controller.specs.Parts.{pauseOf, hotOf}
-use Rattle.controller.specs.Inner.{
-  shareOf,
-  movedOf,
-  axisBy,
+use Rattle.controller.specs.Inner.Parts.{pauseOf, hotOf}
+use Rattle.controller.specs.Inner.Motion.{
+  shareStepOf,
+  axisStepPosition,
+  axisStepGiven,
   AxisFits,
-  wordBy,
-  restBy,
-  atRestAt,
-  underWay,
-  advancedBy,
-  pacedBy,
-  leftOf,
-  ranBy,
-  ranTo,
+  wordOf,
+  restOf,
+  atRestOf,
+  underWayOf,
+  advanceGiven,
+  paceGiven,
+  dwellLeftOf,
+  runsGiven,
+  runsPaced,
   runsOf,
   heldRan,
   RunFits,
@@ -110,11 +110,11 @@ module _ (d M m t : ℕ) (p : m < M) (s : Share d M m t) where
       pulse = cond (ltb t ((m + 1) * d / M)) (directed minus 1) (pos 0);
     }
 
-    moved-is : t < d → movedOf (record { 0 = bias z }) minus ≡ record { 0 = bias (z +ℤ directed minus 1) }
+    moved-is : t < d → axisStepPosition (record { 0 = bias z }) minus ≡ record { 0 = bias (z +ℤ directed minus 1) }
     moved-is h = when minus room
       where
         when : (b : Bool) → Room b (bias z) (d - t)
-            → movedOf (record { 0 = bias z }) b ≡ record { 0 = bias (z +ℤ directed b 1) }
+            → axisStepPosition (record { 0 = bias z }) b ≡ record { 0 = bias (z +ℤ directed b 1) }
         when true r =
             let l = lies true z 1 inside (omega arith) .held in
             let e : bias z - 1 ≡ bias (z +ℤ directed true 1) = omega arith in
@@ -131,9 +131,9 @@ module _ (d M m t : ℕ) (p : m < M) (s : Share d M m t) where
         none true = refl
         none false = refl
 
-    axis-is : axisBy (shareOf (m * d % M) d M) (record { 0 = t }) (record { 0 = bias z }) minus ≡ axisAfter
+    axis-is : axisStepGiven (shareStepOf (m * d % M) d M) (record { 0 = t }) (record { 0 = bias z }) minus ≡ axisAfter
     axis-is =
-        (λ i. axisBy (record { remainder = remainder-next d M m i; on = grows-is i }) (record { 0 = t })
+        (λ i. axisStepGiven (record { remainder = remainder-next d M m i; on = grows-is i }) (record { 0 = t })
         (record { 0 = bias z }) minus)
         ∙ when (ltb t ((m + 1) * d / M)) refl
       where
@@ -144,7 +144,7 @@ module _ (d M m t : ℕ) (p : m < M) (s : Share d M m t) where
         high = share-once d M m t above s
 
         when : (b : Bool) → ltb t ((m + 1) * d / M) ≡ b
-            → axisBy (record { remainder = (m + 1) * d % M; on = b }) (record { 0 = t }) (record { 0 = bias z }) minus
+            → axisStepGiven (record { remainder = (m + 1) * d % M; on = b }) (record { 0 = t }) (record { 0 = bias z }) minus
             ≡ record {
               travel = record { 0 = (m + 1) * d / M };
               position = record { 0 = bias (z +ℤ directed minus ((m + 1) * d / M - t)) };
@@ -157,7 +157,7 @@ module _ (d M m t : ℕ) (p : m < M) (s : Share d M m t) where
             let one : t + 1 ≡ (m + 1) * d / M = omega (arith, high) in
             let by : 1 ≡ (m + 1) * d / M - t = omega (arith, high) in
             let place = subst
-            (λ (n : ℕ). movedOf (record { 0 = bias z }) minus ≡ record { 0 = bias (z +ℤ directed minus n) }) by
+            (λ (n : ℕ). axisStepPosition (record { 0 = bias z }) minus ≡ record { 0 = bias (z +ℤ directed minus n) }) by
             (moved-is (omega (arith, share-short))) in
             λ i. record {
               travel = record { 0 = one i };
@@ -202,8 +202,8 @@ module _ (m : Machine) (f : Fits m) (e : m .move .moving ≡ true) where
   }
 
   step-axis : (k : ℕ) → k < 5
-      → axisBy
-      (shareOf (gone (m .move) * m .move .plan .distance k % whole (m .move)) (m .move .plan .distance k)
+      → axisStepGiven
+      (shareStepOf (gone (m .move) * m .move .plan .distance k % whole (m .move)) (m .move .plan .distance k)
       (whole (m .move)))
       (record { 0 = m .move .travel k }) (record { 0 = bias (m .position k) }) (m .move .plan .minus k)
       ≡ stepAxis k
@@ -219,7 +219,7 @@ module _ (m : Machine) (f : Fits m) (e : m .move .moving ≡ true) where
         pulse = sym (step-pulse m (f .move .good) e k h) i;
       })
 
-  first-is : wordBy (heldHot m .wires) (stepAxis 0 .on) (stepAxis 1 .on) (stepAxis 2 .on) (stepAxis 3 .on)
+  first-is : wordOf (heldHot m .wires) (stepAxis 0 .on) (stepAxis 1 .on) (stepAxis 2 .on) (stepAxis 3 .on)
       (stepAxis 4 .on)
       ≡ word m (pulse (m .move) (reached (m .move))) true
   first-is =
@@ -237,8 +237,8 @@ module _ (m : Machine) (f : Fits m) (e : m .move .moving ≡ true) where
           remainders = each (λ k. n * m .move .plan .distance k % whole (m .move));
           positions = each (λ k. record { 0 = bias (m .position k +ℤ pulse (m .move) (reached (m .move)) k) });
         })
-        (cond last (atRestAt (heldRun (m .move)) n) (underWay (heldRun (m .move)) n u phase)) (heldHot m .wires)
-        (pauseOf (leftOf last (m .settings .dwell) (m .pause .left)) (heldHot m .pause .waiting)) (m .inputs)
+        (cond last (atRestOf (heldRun (m .move)) n) (underWayOf (heldRun (m .move)) n u phase)) (heldHot m .wires)
+        (pauseOf (dwellLeftOf last (m .settings .dwell) (m .pause .left)) (heldHot m .pause .waiting)) (m .inputs)
         (m .outputs) (m .watch) (heldHot m .flags)
 
     -- The master's own share is its travel.
@@ -249,15 +249,15 @@ module _ (m : Machine) (f : Fits m) (e : m .move .moving ≡ true) where
 
     -- A tick with a master pulse, which may be the last.
     pulsed-is : (last : Bool)
-        → ranTo (heldSettings (m .settings)) (heldHot m) (record {
-          run = cond last (atRestAt (heldRun (m .move)) (reached (m .move)))
-              (underWay (heldRun (m .move)) (reached (m .move)) u phase);
+        → runsPaced (heldSettings (m .settings)) (heldHot m) (record {
+          run = cond last (atRestOf (heldRun (m .move)) (reached (m .move)))
+              (underWayOf (heldRun (m .move)) (reached (m .move)) u phase);
           fires = true;
           ends = last;
         })
         ≡ heldRan (record { machine = landing m u phase last; pulse = pulse (m .move) (reached (m .move)) })
     pulsed-is last =
-        (λ i. ranBy (heldHot m) (landed last (reached (m .move)) .run) (landed last (reached (m .move)) .pause .left)
+        (λ i. runsGiven (heldHot m) (landed last (reached (m .move)) .run) (landed last (reached (m .move)) .pause .left)
         (step-axis 0 (lit< tt) i) (step-axis 1 (lit< tt) i) (step-axis 2 (lit< tt) i) (step-axis 3 (lit< tt) i)
         (step-axis 4 (lit< tt) i))
         ∙ (λ i. record {
@@ -277,7 +277,7 @@ module _ (m : Machine) (f : Fits m) (e : m .move .moving ≡ true) where
 
 -- A tick without a pulse.
 quiet-is : (m : Machine) → _≡_ {A = Ran}
-    (record { hot = heldHot m; pulses = each (λ k. pos 0); first = restBy (heldHot m .wires) }) (heldRan (quiet m))
+    (record { hot = heldHot m; pulses = each (λ k. pos 0); first = restOf (heldHot m .wires) }) (heldRan (quiet m))
 quiet-is m = λ i. record { hot = heldHot m; pulses = each (λ k. pos 0); first = still-is m i }
 
 module _ (m : Machine) (f : Fits m) where
@@ -294,8 +294,8 @@ module _ (m : Machine) (f : Fits m) where
       (ltb grown full) (eqb (reached (m .move)) (whole (m .move)))
     where
       when : (moving : Bool) → m .move .moving ≡ moving → (stands short last : Bool)
-          → ranTo (heldSettings (m .settings)) (heldHot m)
-          (pacedBy (heldRun (m .move)) moving stands (advancedBy (heldRun (m .move)) speed short last))
+          → runsPaced (heldSettings (m .settings)) (heldHot m)
+          (paceGiven (heldRun (m .move)) moving stands (advanceGiven (heldRun (m .move)) speed short last))
           ≡ heldRan (cond (not moving) (quiet m)
           (cond stands (quiet (ended m))
           (cond short (quiet (withMove m (atSpeed (m .move) speed grown)))

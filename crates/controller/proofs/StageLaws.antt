@@ -16,7 +16,9 @@ use Rattle.controller.specs.declared.Cold.{Cold}
 use Rattle.controller.specs.declared.TickAnswer.{TickAnswer}
 use Rattle.controller.specs.declared.hot.Settings.{Settings}
 use Rattle.controller.specs.Held.{heldSettings, heldPlan, heldHot, heldCold, heldTick}
-use Rattle.controller.specs.Inner.{waitsOf, stopsOf, restBy, runsOf, heldRan, RunFits, WaitFits}
+use Rattle.controller.specs.Inner.Motion.{restOf, runsOf, heldRan, RunFits}
+use Rattle.controller.specs.Inner.Watch.{stopsOf}
+use Rattle.controller.specs.Inner.Start.{waitsOf, WaitFits}
 use Rattle.controller.proofs.TickLaws.{stops-is, rest-is}
 use Rattle.controller.proofs.StartLaws.{waits-is, wait-fits}
 use Rattle.controller.proofs.PulseLaws.{run-is, run-fits}
@@ -84,7 +86,7 @@ module _ (m : Machine) (w : ℕ) (f : Fits m) where
         controller = record { hot = heldRan (runs (stops (looks m w))) .hot; cold = heldCold m };
         pulses = heldRan (runs (stops (looks m w))) .pulses;
         first = heldRan (runs (stops (looks m w))) .first;
-        second = restBy (heldRan (runs (stops (looks m w))) .hot .wires);
+        second = restOf (heldRan (runs (stops (looks m w))) .hot .wires);
         number = failure (tries (takes m w));
       })
       (heldTick (ticked (runs (stops (looks m w))) (failure (tries (takes m w)))))

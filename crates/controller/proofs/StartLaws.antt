@@ -19,16 +19,14 @@ use Rattle.machine.proofs.PositionLaws.{bias-small, leaves, leaves-is}
 use Rattle.machine.proofs.FitLaws.{Fits, WaitingFits}
 use Rattle.controller.specs.declared.start.Waited.{Waited}
 use Rattle.controller.specs.Held.{heldSettings, heldPlan, heldFlags, heldWaiting, heldHot}
-use Rattle.controller.specs.Parts.{withPause}
-use Rattle.controller.specs.Inner.{
-  positionAt,
-  startOf,
+use Rattle.controller.specs.Inner.Parts.{runOf, pauseOf, hotOf, withPause, positionAt}
+use Rattle.controller.specs.Inner.Start.{
+  startNumberOf,
   StartFits,
   begunOf,
   failedOf,
-  dueBy,
+  dueGiven,
   dueOf,
-  countedOf,
   waitsOf,
   WaitFits,
 }
@@ -61,7 +59,7 @@ module _ (m : Machine) (f : Fits m) where
       low k h = bias-small (m .position k) (f .places .inside k h)
 
 pub start-is : (m : Machine) (k : ℕ) → k < 5 → Fits m
-    → startOf (heldSettings (m .settings)) (heldPlan (m .next)) (heldHot m) k ≡ startNumber m k
+    → startNumberOf (heldSettings (m .settings)) (heldPlan (m .next)) (heldHot m) k ≡ startNumber m k
 start-is m k h f = λ i.
     cond (m .flags .emergency) 12
     (cond (sensorActive m) 13
@@ -83,29 +81,14 @@ no-remainder d M = sym (ap (λ (x : ℕ). x % M) (none-of d) ∙ zero-mod M)
 pub begun-is : (m : Machine) (k : ℕ) → k < 5
     → begunOf (heldPlan (m .next)) (m .settings .polarity) (m .switch) (heldHot m) k ≡ heldHot (begun m k)
 unfolding restOf fireOf
-begun-is m k h = λ i. record {
-  plan = heldPlan (m .next);
-  counters = record {
-    travels = each (λ j. record { 0 = 0 });
-    remainders = rest 0 i ∷ rest 1 i ∷ rest 2 i ∷ rest 3 i ∷ rest 4 i ∷ [];
-    positions = heldHot m .counters .positions;
-  };
-  run = record {
-    length = each-at (m .next .distance) 0 k h i;
-    gone = 0;
-    speed = 0;
-    phase = 0;
-    master = k;
-    moving = true;
-    stopping = false;
-  };
-  wires = heldHot (begun m k) .wires;
-  pause = record { left = 0; waiting = 0 };
-  inputs = m .inputs;
-  outputs = m .outputs;
-  watch = m .watch;
-  flags = heldFlags (begun m k .flags);
-}
+begun-is m k h = λ i.
+    hotOf (heldPlan (m .next)) (record {
+      travels = each (λ j. record { 0 = 0 });
+      remainders = rest 0 i ∷ rest 1 i ∷ rest 2 i ∷ rest 3 i ∷ rest 4 i ∷ [];
+      positions = heldHot m .counters .positions;
+    })
+    (runOf (each-at (m .next .distance) 0 k h i) 0 0 0 k true false) (heldHot (begun m k) .wires) (pauseOf 0 0)
+    (m .inputs) (m .outputs) (m .watch) (heldFlags (begun m k .flags))
   where
     rest : (j : ℕ) → 0 ≡ 0 * m .next .distance j % m .next .distance k
     rest j = no-remainder (m .next .distance j) (m .next .distance k)
@@ -118,7 +101,7 @@ module _ (m : Machine) (f : Fits m) where
   heldWaited t = record { hot = heldHot (waits m t); number = failure t }
 
   failed-is : (n : ℕ) → m .pause .left ≡ 1 → failedOf (heldHot m) n ≡ heldHot (waits m (failed n))
-  failed-is n e = λ i. withPause (failedOf (heldHot m) n) (record { left = none-left i; waiting = 0 })
+  failed-is n e = λ i. withPause (failedOf (heldHot m) n) (none-left i) 0
     where
       none-left : 0 ≡ m .pause .left - 1
       none-left = omega arith
@@ -126,7 +109,7 @@ module _ (m : Machine) (f : Fits m) where
   due-is : (k : ℕ) → k < 5 → m .pause .left ≡ 1
       → dueOf (heldSettings (m .settings)) (heldPlan (m .next)) (m .switch) (heldHot m) k ≡ heldWaited (tryStart m k)
   due-is k h e =
-      ap (dueBy (heldPlan (m .next)) (m .settings .polarity) (m .switch) (heldHot m) k) (start-is m k h f)
+      ap (dueGiven (heldPlan (m .next)) (m .settings .polarity) (m .switch) (heldHot m) k) (start-is m k h f)
       ∙ when (eqb (startNumber m k) 0)
     where
       when : (b : Bool)
@@ -149,14 +132,14 @@ module _ (m : Machine) (f : Fits m) where
       when : (w : Waiting) → WaitingFits w → (b : Bool) → eqb (m .pause .left) 1 ≡ b
           → cond (b && ltb 0 (heldWaiting w))
           (dueOf (heldSettings (m .settings)) (heldPlan (m .next)) (m .switch) (heldHot m) (heldWaiting w - 1))
-          (record { hot = countedOf (heldHot m); number = 0 })
+          (heldWaited untried)
           ≡ heldWaited (cond b (tryWaiting m w) untried)
       when none h true e = refl
       when none h false e = refl
       when (start k) h true e =
           (λ i. cond (lt-ltb 0 (k + 1) (omega arith) i)
           (dueOf (heldSettings (m .settings)) (heldPlan (m .next)) (m .switch) (heldHot m) (back k i))
-          (record { hot = countedOf (heldHot m); number = 0 }))
+          (heldWaited untried))
           ∙ due-is k h (eqb-true (m .pause .left) 1 e)
       when (start k) h false e = refl
 

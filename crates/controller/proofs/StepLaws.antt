@@ -21,23 +21,22 @@ use Rattle.controller.specs.declared.motion.Ran.{Ran}
 use Rattle.controller.specs.declared.hot.Hot.{Hot}
 use Rattle.controller.specs.declared.hot.Run.{Run}
 use Rattle.controller.specs.declared.hot.Settings.{Settings}
-use Rattle.controller.specs.Inner.{
+use Rattle.controller.specs.Inner.Parts.{travelAt, positionAt}
+use Rattle.controller.specs.Inner.Motion.{
   rampOf,
-  shareOf,
-  axisBy,
-  axisAt,
-  travelAt,
-  positionAt,
-  wordBy,
+  shareStepOf,
+  axisStepGiven,
+  runsAxis,
+  wordOf,
   standsOf,
   runsOf,
-  advancedTo,
-  pacedBy,
-  pacedOf,
-  leftOf,
-  afterOf,
-  ranBy,
-  ranTo,
+  advanceOf,
+  paceGiven,
+  paceOf,
+  dwellLeftOf,
+  steppedOf,
+  runsGiven,
+  runsPaced,
 }
 
 pub mod-once : (n m : ℕ) → m ≤ n → n < m + m → n - m ≡ n % m
@@ -46,15 +45,15 @@ mod-once n m h k =
     sym (mod-eq-sub-mod {n = n} {m = m} h ∙ mod-eq-of-lt {n = n - m} {m = m} l)
 
 pub share-on : (r d M : ℕ) → r < M → d ≤ M → M ≤ r + d
-    → _≡_ {A = Share} (record { remainder = r + d - M; on = true }) (shareOf r d M)
+    → _≡_ {A = Share} (record { remainder = r + d - M; on = true }) (shareStepOf r d M)
 share-on r d M h k l =
     λ i. record { remainder = mod-once (r + d) M l (omega arith) i; on = sym (le-leb M (r + d) l) i }
 
-pub share-off : (r d M : ℕ) → r + d < M → _≡_ {A = Share} (record { remainder = r + d; on = false }) (shareOf r d M)
+pub share-off : (r d M : ℕ) → r + d < M → _≡_ {A = Share} (record { remainder = r + d; on = false }) (shareStepOf r d M)
 share-off r d M h = λ i. record { remainder = sym (mod-eq-of-lt h) i; on = sym (lt-leb M (r + d) h) i }
 
 -- An axis pulses where the remainder and the distance come to a whole length.
-pub grown : (s : Share) (r d M : ℕ) → s ≡ shareOf r d M → s .on ≡ true → M ≤ r + d
+pub grown : (s : Share) (r d M : ℕ) → s ≡ shareStepOf r d M → s .on ≡ true → M ≤ r + d
 grown s r d M e h = leb-true M (r + d) (sym (ap (λ (x : Share). x .on) e) ∙ h)
 
 module _ (s : Share) (t : Travel) (p : Position) (minus : Bool) where
@@ -66,7 +65,7 @@ module _ (s : Share) (t : Travel) (p : Position) (minus : Bool) where
         on = true;
         pulse = negsuc 0;
       })
-      (axisBy s t p minus)
+      (axisStepGiven s t p minus)
   axis-down e f = rw (e, f)
 
   pub axis-up : s .on ≡ true → minus ≡ false
@@ -77,21 +76,21 @@ module _ (s : Share) (t : Travel) (p : Position) (minus : Bool) where
         on = true;
         pulse = pos 1;
       })
-      (axisBy s t p minus)
+      (axisStepGiven s t p minus)
   axis-up e f = rw (e, f)
 
   pub axis-still : s .on ≡ false
       → _≡_ {A = Axis} (record { travel = t; position = p; remainder = s .remainder; on = false; pulse = pos 0 })
-      (axisBy s t p minus)
+      (axisStepGiven s t p minus)
   axis-still e = rw e
 
   -- The pulse after it went through eight bits.
-  pub axis-bits : toZ w8 (ofZ w8 (axisBy s t p minus .pulse)) ≡ axisBy s t p minus .pulse
+  pub axis-bits : toZ w8 (ofZ w8 (axisStepGiven s t p minus .pulse)) ≡ axisStepGiven s t p minus .pulse
   axis-bits = when (s .on) minus
     where
       when : (b m : Bool)
-          → toZ w8 (ofZ w8 (axisBy (record { remainder = s .remainder; on = b }) t p m .pulse))
-          ≡ axisBy (record { remainder = s .remainder; on = b }) t p m .pulse
+          → toZ w8 (ofZ w8 (axisStepGiven (record { remainder = s .remainder; on = b }) t p m .pulse))
+          ≡ axisStepGiven (record { remainder = s .remainder; on = b }) t p m .pulse
       when true true = refl
       when true false = refl
       when false m = refl
@@ -101,23 +100,23 @@ module _ (s : Share) (t : Travel) (p : Position) (minus : Bool) where
 -- What ramp and pulses answer, from what their parts answer.
 module _ (s : Settings) (h : Hot) where
   abbrev shareIn : ℕ → Share
-  shareIn k = shareOf (getD (h .counters .remainders) k 0) (getD (h .plan .distances) k 0) (h .run .length)
+  shareIn k = shareStepOf (getD (h .counters .remainders) k 0) (getD (h .plan .distances) k 0) (h .run .length)
 
-  bits : (fires : Bool) (k : ℕ) → toZ w8 (ofZ w8 (axisAt h fires k .pulse)) ≡ axisAt h fires k .pulse
+  bits : (fires : Bool) (k : ℕ) → toZ w8 (ofZ w8 (runsAxis h fires k .pulse)) ≡ runsAxis h fires k .pulse
   bits false k = refl
   bits true k =
       axis-bits (shareIn k) (travelAt (h .counters) k) (positionAt (h .counters) k) (getD (h .plan .minus) k false)
 
-  back : (x : Axis) (fires : Bool) (k : ℕ) → x ≡ axisAt h fires k → toZ w8 (ofZ w8 (x .pulse)) ≡ x .pulse
+  back : (x : Axis) (fires : Bool) (k : ℕ) → x ≡ runsAxis h fires k → toZ w8 (ofZ w8 (x .pulse)) ≡ x .pulse
   back x fires k e =
       ap (λ (y : Axis). toZ w8 (ofZ w8 (y .pulse))) e ∙ (bits fires k ∙ sym (ap (λ (y : Axis). y .pulse) e))
 
   pub ran-is : (p : Paced) (a b c d e : Axis) (left : ℕ) (hot : Hot) (w : ℕ)
-      → p ≡ pacedOf s (h .run)
-      → a ≡ axisAt h (p .fires) 0 → b ≡ axisAt h (p .fires) 1 → c ≡ axisAt h (p .fires) 2
-      → d ≡ axisAt h (p .fires) 3 → e ≡ axisAt h (p .fires) 4
-      → left ≡ leftOf (p .ends) (s .dwell) (h .pause .left) → hot ≡ afterOf h (p .run) left a b c d e
-      → w ≡ wordBy (h .wires) (a .on) (b .on) (c .on) (d .on) (e .on)
+      → p ≡ paceOf s (h .run)
+      → a ≡ runsAxis h (p .fires) 0 → b ≡ runsAxis h (p .fires) 1 → c ≡ runsAxis h (p .fires) 2
+      → d ≡ runsAxis h (p .fires) 3 → e ≡ runsAxis h (p .fires) 4
+      → left ≡ dwellLeftOf (p .ends) (s .dwell) (h .pause .left) → hot ≡ steppedOf h (p .run) left a b c d e
+      → w ≡ wordOf (h .wires) (a .on) (b .on) (c .on) (d .on) (e .on)
       → _≡_ {A = Ran} (record {
         hot = hot;
         first = w;
@@ -126,22 +125,22 @@ module _ (s : Settings) (h : Hot) where
       })
       (runsOf s h)
   ran-is p a b c d e left hot w ep ea eb ec ed ee el eh ew =
-      _∙_ {b = ranBy h (p .run) left a b c d e}
+      _∙_ {b = runsGiven h (p .run) left a b c d e}
       (λ i. record {
         hot = eh i;
         first = ew i;
         pulses = back a (p .fires) 0 ea i ∷ back b (p .fires) 1 eb i ∷ back c (p .fires) 2 ec i
             ∷ back d (p .fires) 3 ed i ∷ back e (p .fires) 4 ee i ∷ [];
       })
-      (_∙_ {b = ranTo s h p}
-      (λ i. ranBy h (p .run) (el i) (ea i) (eb i) (ec i) (ed i) (ee i))
-      (λ i. ranTo s h (ep i)))
+      (_∙_ {b = runsPaced s h p}
+      (λ i. runsGiven h (p .run) (el i) (ea i) (eb i) (ec i) (ed i) (ee i))
+      (λ i. runsPaced s h (ep i)))
 
 -- Where the master pulses, a move runs.
-pub fires-moving : (s : Settings) (r : Run) (p : Paced) → p ≡ pacedOf s r → p .fires ≡ true → r .moving ≡ true
+pub fires-moving : (s : Settings) (r : Run) (p : Paced) → p ≡ paceOf s r → p .fires ≡ true → r .moving ≡ true
 fires-moving s r p e f = when (r .moving) (sym (ap (λ (x : Paced). x .fires) e) ∙ f)
   where
-    when : (b : Bool) → pacedBy r b (standsOf r (s .slope)) (advancedTo r (rampOf s r)) .fires ≡ true → b ≡ true
+    when : (b : Bool) → paceGiven r b (standsOf r (s .slope)) (advanceOf r (rampOf s r)) .fires ≡ true → b ≡ true
     when true q = refl
     when false q = q
 

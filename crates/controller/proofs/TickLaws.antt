@@ -16,8 +16,10 @@ use Rattle.outputs.proofs.Words.{word-rest, word-still, small}
 use Rattle.machine.specs.State.{Machine, withMove, withFlags}
 use Rattle.machine.specs.Stops.{takes, stops, stopping, marks, blocked, sensorActive, watchFull, limitOrWatch}
 use Rattle.machine.specs.Outputs.{word}
-use Rattle.controller.specs.Held.{heldSettings, heldPlan, heldCounters, heldRun, heldPause, heldFlags, heldHot}
-use Rattle.controller.specs.Inner.{takesOf, limitBy, causesBy, metWith, metBy, stopsOf, restBy, WiresFit}
+use Rattle.controller.specs.Held.{heldSettings, heldPlan, heldFlags, heldHot}
+use Rattle.controller.specs.Inner.Parts.{hotOf}
+use Rattle.controller.specs.Inner.Motion.{restOf, WiresFit}
+use Rattle.controller.specs.Inner.Watch.{takesOf, limitOrWatchOf, causesGiven, stopsGiven, stopsMet, stopsOf}
 
 -- What the five axes have, at one of them.
 pub each-at : {A : Type 0} (f : ℕ → A) (x : A) (k : ℕ) → k < 5 → getD (each f) k x ≡ f k
@@ -31,20 +33,12 @@ general-clear s o true = by-bool (λ (x : ℕ). 0 ≡ x) (ltb s 8) _ _ (λ e. re
 general-clear s o false = refl
 
 pub takes-is : (m : Machine) (w : ℕ) → takesOf (heldSettings (m .settings)) (heldHot m) w ≡ heldHot (takes m w)
-takes-is m w = λ i. record {
-  plan = heldPlan (m .move .plan);
-  counters = heldCounters (m .move) (m .position);
-  run = heldRun (m .move);
-  wires = record {
-    general = general-clear (m .switch) (m .outputs) (watchFull (takes m w) 1) i;
-    cells = heldHot m .wires .cells;
-  };
-  pause = heldPause (m .pause);
-  inputs = w;
-  outputs = takes m w .outputs;
-  watch = takes m w .watch;
-  flags = heldFlags (takes m w .flags);
-}
+takes-is m w = λ i.
+    hotOf (heldHot m .plan) (heldHot m .counters) (heldHot m .run) (record {
+      general = general-clear (m .switch) (m .outputs) (watchFull (takes m w) 1) i;
+      cells = heldHot m .wires .cells;
+    })
+    (heldHot m .pause) w (takes m w .outputs) (takes m w .watch) (heldFlags (takes m w .flags))
 
 -- ---- Stops
 
@@ -57,27 +51,27 @@ or-true true = refl
 or-true false = refl
 
 module _ (m : Machine) where
-  limit-is : limitBy (heldSettings (m .settings)) (heldPlan (m .move .plan)) (m .inputs) (m .watch) ≡ limitOrWatch m
+  limit-is : limitOrWatchOf (heldSettings (m .settings)) (heldPlan (m .move .plan)) (m .inputs) (m .watch) ≡ limitOrWatch m
   limit-is = ap (λ (b : Bool). blocked m (m .move .plan) || leb 1000000 (m .watch) && b) (test-odd (m .settings .watch))
 
   pub stops-is : stopsOf (heldSettings (m .settings)) (heldHot m) ≡ heldHot (stops m)
   stops-is =
-      ap (λ (b : Bool). metBy (heldHot m) (causesBy (m .move .moving) (m .flags .emergency) (sensorActive m) b)) limit-is
+      ap (λ (b : Bool). stopsMet (heldHot m) (causesGiven (m .move .moving) (m .flags .emergency) (sensorActive m) b)) limit-is
       ∙ when (m .move .moving) (m .flags .emergency) (sensorActive m) (limitOrWatch m)
     where
-      unmet : metBy (heldHot m) (record { any = false; limit = false; sensor = false }) ≡ heldHot m
+      unmet : stopsMet (heldHot m) (record { any = false; limit = false; sensor = false }) ≡ heldHot m
       unmet = λ i.
-          metWith (heldHot m) (or-false (m .move .stopping) i) (or-false (m .flags .stopped) i)
+          stopsGiven (heldHot m) (or-false (m .move .stopping) i) (or-false (m .flags .stopped) i)
           (or-false (m .flags .sensed) i)
 
       met : (sensor limit : Bool)
-          → metBy (heldHot m) (record { any = true; limit = limit; sensor = sensor })
+          → stopsMet (heldHot m) (record { any = true; limit = limit; sensor = sensor })
           ≡ heldHot (withFlags (withMove m (stopping (m .move))) (marks (m .flags) limit sensor))
       met sensor limit = λ i.
-          metWith (heldHot m) (or-true (m .move .stopping) i) (m .flags .stopped || limit) (m .flags .sensed || sensor)
+          stopsGiven (heldHot m) (or-true (m .move .stopping) i) (m .flags .stopped || limit) (m .flags .sensed || sensor)
 
       when : (moving emergency sensor limit : Bool)
-          → metBy (heldHot m) (causesBy moving emergency sensor limit)
+          → stopsMet (heldHot m) (causesGiven moving emergency sensor limit)
           ≡ heldHot (cond (moving && (emergency || sensor || limit))
           (withFlags (withMove m (stopping (m .move))) (marks (m .flags) limit sensor)) m)
       when false emergency sensor limit = unmet
@@ -89,13 +83,13 @@ module _ (m : Machine) where
   -- ---- Words at rest
 
   -- The word of a second half, whatever the pulses.
-  pub rest-is : (p : ℕ → ℤ) → restBy (heldHot m .wires) ≡ word m p false
+  pub rest-is : (p : ℕ → ℤ) → restOf (heldHot m .wires) ≡ word m p false
   rest-is p =
       let h = word-rest (m .switch) (m .settings .polarity) (m .outputs) (m .move .plan .minus) p in
       omega (arith, h)
 
   -- The word of a first half without a pulse.
-  pub still-is : restBy (heldHot m .wires) ≡ word m (λ k. pos 0) true
+  pub still-is : restOf (heldHot m .wires) ≡ word m (λ k. pos 0) true
   still-is =
       let h = word-still (m .switch) (m .settings .polarity) (m .outputs) (m .move .plan .minus) (λ k. pos 0)
       (λ k l. refl) in

@@ -16,8 +16,8 @@ use Rattle.reply.specs.Reply.{toldBy, replyOf, refusalOf}
 use Rattle.reply.proofs.Replies.{reply-over, reply-length, refusal-over, refusal-length}
 use Rattle.controller.specs.declared.Controller.{Controller}
 use Rattle.controller.specs.declared.ByteAnswer.{ByteAnswer}
-use Rattle.controller.specs.Orders.{numberOf, doesOf, zeroed, turnedOf}
-use Rattle.controller.specs.Told.{readingsOf, refusalTo, refusedOf, replyTo, obeyedOf, linedOf, lineReply}
+use Rattle.controller.specs.Inner.Orders.{numberOf, doesOf, zeroWatchOf, turnedOf}
+use Rattle.controller.specs.Inner.Told.{readingsOf, refusalTo, refusedOf, replyTo, obeyedOf, linedOf, lineReply}
 
 -- An answer with a reply laid over the buffer.
 abbrev pub Answers : ByteAnswer → List ℕ → ByteAnswer → List ℕ → List ℕ → Type 0
@@ -45,7 +45,7 @@ module _ (c : Controller) (ident : Ident) (d : List ℕ) where
       )
 
   module _ (command : Command) (digits : ℕ) where
-    pub obey-silent : (silent : Bool) (t : Controller) → silent ≡ true → t ≡ zeroed (doesOf c command)
+    pub obey-silent : (silent : Bool) (t : Controller) → silent ≡ true → t ≡ zeroWatchOf (doesOf c command)
         → Answers (record { controller = t; length = 0; number = 0 }) d (obeyedOf c silent ident command digits)
         (replyTo c silent ident command digits) d
     obey-silent silent t s e =
@@ -56,7 +56,7 @@ module _ (c : Controller) (ident : Ident) (d : List ℕ) where
 
     pub obey-told : (silent : Bool) (t : Controller) (r : Readings) (l : ℕ) (x : List ℕ) → 120 ≤ length d → silent ≡
         false
-        → t ≡ zeroed (doesOf c command) → r ≡ readingsOf c
+        → t ≡ zeroWatchOf (doesOf c command) → r ≡ readingsOf c
         → l ≡ laidLength 0 (replyOf (toldBy r) command digits ident) d
         → x ≡ laid 0 (replyOf (toldBy r) command digits ident) d
         → Answers (record { controller = t; length = l; number = 0 }) x (obeyedOf c silent ident command digits)

@@ -1,8 +1,7 @@
 pub mod Held
 pub mod Reach
 pub mod Answers
-pub mod Parts
 pub mod Inner
-pub mod Orders
-pub mod Told
-pub mod Power
+-- The names under which src/told.rt and src/lib.rt cite two of its files.
+pub use Rattle.controller.specs.Inner.Told
+pub use Rattle.controller.specs.Inner.Power

@@ -2,23 +2,23 @@
 ghost use mathlib.Core.Path.{_≡_};
 ghost use Prim.Native.Nat.{_≤_, _<_};
 ghost use Rattle.machine.specs.Ramp.{braked, towards};
-ghost use Rattle.controller.specs.Inner.{
+ghost use Rattle.controller.specs.Inner.Motion.{
   rampOf,
-  shareOf,
-  axisWhen,
+  shareStepOf,
+  axisStepOf,
   levelOf,
-  wordBy,
-  restBy,
+  wordOf,
+  restOf,
   standsOf,
-  atRestAt,
-  underWay,
-  advancedTo,
-  pacedOf,
-  leftOf,
-  afterOf,
+  atRestOf,
+  underWayOf,
+  advanceOf,
+  paceOf,
+  dwellLeftOf,
+  steppedOf,
   runsOf,
   RampFits,
-  StepFits,
+  AxisStepFits,
   WiresFit,
   PaceFits,
   RunFits,
@@ -97,7 +97,7 @@ pub struct Share {
 // The share step: the remainder grows by the distance and gives up a whole length as a pulse.
 fn share_step(remainder: u32, distance: u32, length: u32) -> Share
     requires { ⌜ (remainder < length) × (distance ≤ length) × (length ≤ 524287) ⌝ }
-    ensures { λ r. ⌜ r ≡ shareOf remainder distance length ⌝ }
+    ensures { λ r. ⌜ r ≡ shareStepOf remainder distance length ⌝ }
 {
     let sum = remainder + distance;
     if length <= sum {
@@ -123,8 +123,8 @@ pub struct Axis {
 
 // One axis in a tick: where the master pulses and its share grows, its travel and position go one further.
 fn axis_step(fires: bool, plan: Plan, counters: Counters, length: u32, k: usize) -> Axis
-    requires { ⌜ (k < 5) × StepFits fires plan counters length k ⌝ }
-    ensures { λ r. ⌜ r ≡ axisWhen fires plan counters length k ⌝ }
+    requires { ⌜ (k < 5) × AxisStepFits fires plan counters length k ⌝ }
+    ensures { λ r. ⌜ r ≡ axisStepOf fires plan counters length k ⌝ }
 {
     let t = counters.travels[k];
     let p = counters.positions[k];
@@ -181,7 +181,7 @@ fn level(wires: Wires, k: usize, on: bool) -> u32
 // The output word in which these axes pulse.
 fn word(wires: Wires, a: bool, b: bool, c: bool, d: bool, e: bool) -> u32
     requires { ⌜ WiresFit wires ⌝ }
-    ensures { λ r. ⌜ r ≡ wordBy wires a b c d e ⌝ }
+    ensures { λ r. ⌜ r ≡ wordOf wires a b c d e ⌝ }
 {
     wires.general
         + level(wires, 0, a)
@@ -194,7 +194,7 @@ fn word(wires: Wires, a: bool, b: bool, c: bool, d: bool, e: bool) -> u32
 // The output word at rest, which is that of every second half.
 pub(crate) fn rest(wires: Wires) -> u32
     requires { ⌜ WiresFit wires ⌝ }
-    ensures { λ r. ⌜ r ≡ restBy wires ⌝ }
+    ensures { λ r. ⌜ r ≡ restOf wires ⌝ }
 {
     word(wires, false, false, false, false, false)
 }
@@ -218,7 +218,7 @@ pub struct Paced {
 
 // The move has ended: speed and phase 0.
 fn at_rest(was: Run, gone: u32) -> Run
-    ensures { λ r. ⌜ r ≡ atRestAt was gone ⌝ }
+    ensures { λ r. ⌜ r ≡ atRestOf was gone ⌝ }
 {
     Run {
         length: was.length,
@@ -232,7 +232,7 @@ fn at_rest(was: Run, gone: u32) -> Run
 }
 
 fn under_way(was: Run, gone: u32, speed: u32, phase: u32) -> Run
-    ensures { λ r. ⌜ r ≡ underWay was gone speed phase ⌝ }
+    ensures { λ r. ⌜ r ≡ underWayOf was gone speed phase ⌝ }
 {
     Run {
         length: was.length,
@@ -248,7 +248,7 @@ fn under_way(was: Run, gone: u32, speed: u32, phase: u32) -> Run
 // The phase grows by the speed, and the master pulses where it is full.
 fn advance(was: Run, speed: u32) -> Paced
     requires { ⌜ (speed ≤ 50000000) × (was .phase < 50000000) × (was .gone < 524287) ⌝ }
-    ensures { λ r. ⌜ r ≡ advancedTo was speed ⌝ }
+    ensures { λ r. ⌜ r ≡ advanceOf was speed ⌝ }
 {
     let grown = was.phase + speed;
     if grown < FULL {
@@ -279,7 +279,7 @@ fn advance(was: Run, speed: u32) -> Paced
 // A tick of the ramp: nothing at rest; the end of a stop; or the speed of this tick and what comes of it.
 fn pace(settings: Settings, was: Run) -> Paced
     requires { ⌜ PaceFits settings was ⌝ }
-    ensures { λ r. ⌜ r ≡ pacedOf settings was ⌝ }
+    ensures { λ r. ⌜ r ≡ paceOf settings was ⌝ }
 {
     if !was.moving {
         return Paced {
@@ -303,7 +303,7 @@ fn pace(settings: Settings, was: Run) -> Paced
 // The ticks of the dwell that are left: the end of a move begins one.
 fn dwell_left(ends: bool, dwell: u32, left: u32) -> u32
     requires { ⌜ dwell ≤ 16383 ⌝ }
-    ensures { λ r. ⌜ r ≡ leftOf ends dwell left ⌝ }
+    ensures { λ r. ⌜ r ≡ dwellLeftOf ends dwell left ⌝ }
 {
     if ends {
         return TICKS_PER_MS * dwell;
@@ -313,7 +313,7 @@ fn dwell_left(ends: bool, dwell: u32, left: u32) -> u32
 
 // Hot with what a tick alters in it.
 fn stepped(hot: Hot, run: Run, left: u32, a: Axis, b: Axis, c: Axis, d: Axis, e: Axis) -> Hot
-    ensures { λ r. ⌜ r ≡ afterOf hot run left a b c d e ⌝ }
+    ensures { λ r. ⌜ r ≡ steppedOf hot run left a b c d e ⌝ }
 {
     let ta = a.travel;
     let tb = b.travel;

@@ -3,20 +3,20 @@ ghost use mathlib.Core.Bool.{_&&_};
 ghost use mathlib.Core.Path.{_≡_};
 ghost use Prim.Native.Nat.{_<_};
 ghost use Rattle.line.specs.Fits.{CommandFits};
-ghost use Rattle.controller.specs.Inner.{StartFits};
-ghost use Rattle.controller.specs.Orders.{
-  setAxis,
-  setPolarity,
-  setOutputs,
+ghost use Rattle.controller.specs.Inner.Start.{StartFits};
+ghost use Rattle.controller.specs.Inner.Orders.{
+  setAxisOf,
+  setPolarityOf,
+  setOutputsOf,
   storesOf,
-  restNumber,
-  startLine,
+  restNumberOf,
+  startLineOf,
   numberOf,
-  obeyStart,
-  obeyStop,
-  obeyReset,
+  obeyStartOf,
+  obeyStopOf,
+  obeyResetOf,
   doesOf,
-  zeroed,
+  zeroWatchOf,
   turnedOf,
 };
 use crate::Controller;
@@ -38,7 +38,7 @@ fn stores(c: Controller, waits: bool) -> bool
 
 // 11 while a move runs.
 fn rest_number(c: Controller) -> u8
-    ensures { λ r. ⌜ r ≡ restNumber c ⌝ }
+    ensures { λ r. ⌜ r ≡ restNumberOf c ⌝ }
 {
     if c.hot.run.moving {
         return 11;
@@ -49,7 +49,7 @@ fn rest_number(c: Controller) -> u8
 // A start's number: 11, then its own unless it is stored.
 fn start_line(c: Controller, master: u8, waits: bool) -> u8
     requires { ⌜ (master < 5) × StartFits (c .cold .next) (c .hot .counters) ⌝ }
-    ensures { λ r. ⌜ r ≡ startLine c master waits ⌝ }
+    ensures { λ r. ⌜ r ≡ startLineOf c master waits ⌝ }
 {
     if c.hot.run.moving {
         return 11;
@@ -97,7 +97,7 @@ pub(crate) fn number(c: Controller, command: Command) -> u8
 // The next move's distance and direction of an axis.
 fn set_axis(c: Controller, axis: u8, minus: bool, length: u32) -> Controller
     requires { ⌜ axis < 5 ⌝ }
-    ensures { λ r. ⌜ r ≡ setAxis c axis minus length ⌝ }
+    ensures { λ r. ⌜ r ≡ setAxisOf c axis minus length ⌝ }
 {
     let k = axis as usize;
     let mut plan = c.cold.next;
@@ -112,7 +112,7 @@ fn set_axis(c: Controller, axis: u8, minus: bool, length: u32) -> Controller
 
 // The polarity, and what the axes' lines add to an output word under it.
 fn set_polarity(c: Controller, v: u32) -> Controller
-    ensures { λ r. ⌜ r ≡ setPolarity c v ⌝ }
+    ensures { λ r. ⌜ r ≡ setPolarityOf c v ⌝ }
 {
     let minus = c.hot.plan.minus;
     let cells = outputs::axis_cells(c.cold.switch, v, minus);
@@ -128,7 +128,7 @@ fn set_polarity(c: Controller, v: u32) -> Controller
 
 // The general outputs, and what they add to an output word.
 fn set_outputs(c: Controller, v: u32) -> Controller
-    ensures { λ r. ⌜ r ≡ setOutputs c v ⌝ }
+    ensures { λ r. ⌜ r ≡ setOutputsOf c v ⌝ }
 {
     let general = outputs::general(c.cold.switch, v);
     let mut next = c;
@@ -140,7 +140,7 @@ fn set_outputs(c: Controller, v: u32) -> Controller
 // A start that is stored waits, any other begins a move.
 fn obey_start(c: Controller, master: u8, waits: bool) -> Controller
     requires { ⌜ master < 5 ⌝ }
-    ensures { λ r. ⌜ r ≡ obeyStart c master waits ⌝ }
+    ensures { λ r. ⌜ r ≡ obeyStartOf c master waits ⌝ }
 {
     let mut next = c;
     if stores(c, waits) {
@@ -157,7 +157,7 @@ fn obey_start(c: Controller, master: u8, waits: bool) -> Controller
 
 // Order 9 begins a stop of a running move, with bit 3, and drops a stored start.
 fn obey_stop(c: Controller) -> Controller
-    ensures { λ r. ⌜ r ≡ obeyStop c ⌝ }
+    ensures { λ r. ⌜ r ≡ obeyStopOf c ⌝ }
 {
     let mut next = c;
     next.hot.pause.waiting = 0;
@@ -179,7 +179,7 @@ fn both(a: bool, b: bool) -> bool
 
 // A position reset zeroes positions and, with the emergency input inactive or disabled, frees the hold.
 fn obey_reset(c: Controller) -> Controller
-    ensures { λ r. ⌜ r ≡ obeyReset c ⌝ }
+    ensures { λ r. ⌜ r ≡ obeyResetOf c ⌝ }
 {
     let told = c.hot.flags;
     let active = inputs::emergency(c.cold.settings.low, c.cold.settings.high, c.hot.inputs);
@@ -232,9 +232,9 @@ pub(crate) fn does(c: Controller, command: Command) -> Controller
     next
 }
 
-// The watch count zeroed.
+// The watch count zeroWatchOf.
 pub(crate) fn zero_watch(c: Controller) -> Controller
-    ensures { λ r. ⌜ r ≡ zeroed c ⌝ }
+    ensures { λ r. ⌜ r ≡ zeroWatchOf c ⌝ }
 {
     let mut next = c;
     next.hot.watch = 0;

@@ -1,16 +1,16 @@
 // A start: what turns it away, what it begins, and the dwell that it may wait for (paper 01, "Turned away" 12 to 17).
 ghost use mathlib.Core.Path.{_≡_};
 ghost use Prim.Native.Nat.{_≤_, _<_, _-_};
-ghost use Rattle.controller.specs.Inner.{
+ghost use Rattle.controller.specs.Inner.Start.{
   longerOf,
   leavesOf,
-  leavesAt,
-  someLeave,
-  startOf,
+  leavesAtOf,
+  someLeaveOf,
+  startNumberOf,
   begunOf,
   failedOf,
   dueOf,
-  isDue,
+  isDueOf,
   waitsOf,
   StartFits,
   WaitFits,
@@ -59,7 +59,7 @@ fn leaves(position: Position, minus: bool, distance: u32) -> bool
 
 fn leaves_at(next: Plan, counters: Counters, k: usize) -> bool
     requires { ⌜ (k < 5) × StartFits next counters ⌝ }
-    ensures { λ r. ⌜ r ≡ leavesAt next counters k ⌝ }
+    ensures { λ r. ⌜ r ≡ leavesAtOf next counters k ⌝ }
 {
     let position = counters.positions[k];
     leaves(position, next.minus[k], next.distances[k])
@@ -68,7 +68,7 @@ fn leaves_at(next: Plan, counters: Counters, k: usize) -> bool
 // Whether some final position is out of range.
 fn some_leave(next: Plan, counters: Counters) -> bool
     requires { ⌜ StartFits next counters ⌝ }
-    ensures { λ r. ⌜ r ≡ someLeave next counters ⌝ }
+    ensures { λ r. ⌜ r ≡ someLeaveOf next counters ⌝ }
 {
     if leaves_at(next, counters, 0) {
         return true;
@@ -88,7 +88,7 @@ fn some_leave(next: Plan, counters: Counters) -> bool
 // The number that turns a start with this master away, or 0.
 pub(crate) fn start_number(settings: Settings, next: Plan, hot: Hot, master: u8) -> u8
     requires { ⌜ (master < 5) × StartFits next (hot .counters) ⌝ }
-    ensures { λ r. ⌜ r ≡ startOf settings next hot master ⌝ }
+    ensures { λ r. ⌜ r ≡ startNumberOf settings next hot master ⌝ }
 {
     let flags = hot.flags;
     if flags.emergency {
@@ -225,7 +225,7 @@ fn lessened(left: u32) -> u32
 }
 
 fn is_due(left: u32, waiting: u8) -> bool
-    ensures { λ r. ⌜ r ≡ isDue left waiting ⌝ }
+    ensures { λ r. ⌜ r ≡ isDueOf left waiting ⌝ }
 {
     if left == 1 {
         return 0 < waiting;

@@ -1,7 +1,16 @@
 // The tick's first stages and its stop causes (paper 01, "Stops", tick order).
 ghost use mathlib.Core.Path.{_≡_};
-ghost use Prim.Native.Nat.{_/_, _+_};
-ghost use Rattle.controller.specs.Inner.{raisedOf, isFull, takesOf, isCalm, limitBy, causeOf, causesOf, stopsOf};
+ghost use Prim.Native.Nat.{_/_, min, _+_};
+ghost use Rattle.controller.specs.Inner.Watch.{
+  raisedOf,
+  isFullOf,
+  takesOf,
+  isCalmOf,
+  limitOrWatchOf,
+  hasCauseOf,
+  causesOf,
+  stopsOf,
+};
 use crate::hot;
 use crate::hot::Hot;
 use crate::hot::Plan;
@@ -21,7 +30,7 @@ fn raised(watch: u32) -> u32
 
 // Whether the count is full and the setting, shifted down to its bit, watches.
 fn is_full(watch: u32, setting: u8) -> bool
-    ensures { λ r. ⌜ r ≡ isFull watch setting ⌝ }
+    ensures { λ r. ⌜ r ≡ isFullOf watch setting ⌝ }
 {
     if watch < WATCH_FULL {
         return false;
@@ -49,7 +58,7 @@ pub(crate) fn takes(settings: Settings, was: Hot, word: u32) -> Hot
 
 // Whether no limit input is active: all that low-ON has are high, none that high-ON has is. Few ticks need more.
 fn is_calm(low: u32, high: u32, inputs: u32) -> bool
-    ensures { λ r. ⌜ r ≡ isCalm low high inputs ⌝ }
+    ensures { λ r. ⌜ r ≡ isCalmOf low high inputs ⌝ }
 {
     if (high & inputs) % 1024 == 0 {
         return (low & inputs) % 1024 == low % 1024;
@@ -60,7 +69,7 @@ fn is_calm(low: u32, high: u32, inputs: u32) -> bool
 // A limit or the watch: the causes that set bit 3. The arrays are made anew, so that no tick has to keep the plan in
 // memory for a call that few make.
 fn limit_or_watch(settings: Settings, plan: Plan, inputs: u32, watch: u32) -> bool
-    ensures { λ r. ⌜ r ≡ limitBy settings plan inputs watch ⌝ }
+    ensures { λ r. ⌜ r ≡ limitOrWatchOf settings plan inputs watch ⌝ }
 {
     if is_calm(settings.low, settings.high, inputs) {
         return is_full(watch, settings.watch);
@@ -76,7 +85,7 @@ fn limit_or_watch(settings: Settings, plan: Plan, inputs: u32, watch: u32) -> bo
 }
 
 fn has_cause(emergency: bool, sensor: bool, limit: bool) -> bool
-    ensures { λ r. ⌜ r ≡ causeOf emergency sensor limit ⌝ }
+    ensures { λ r. ⌜ r ≡ hasCauseOf emergency sensor limit ⌝ }
 {
     if emergency {
         return true;

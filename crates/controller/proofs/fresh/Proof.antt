@@ -1,6 +1,6 @@
 -- `fresh` meets its contract: each return, by the tests and the answers that led there. Assumes nothing.
 use borrow.Author.Needs.{needs}
-use Rattle.controller.specs.Power.{freshWith}
+use Rattle.controller.specs.Inner.Power.{freshGiven}
 use Rattle.controller.proofs.fresh.Statement.{statement}
 use Rattle.controller.proofs.fresh.Tie as tie
 
@@ -17,7 +17,7 @@ returns : tie.Need-returns
 returns c =
     let s = c .before .before .before .args .switch in
     let w = c .before .axis-cells in
-    λ i. freshWith s (c .before .before .general .ensures i)
+    λ i. freshGiven s (c .before .before .general .ensures i)
     (record { rests = w .ensures .0 i; fires = w .ensures .1 i }) (c .new .ensures i)
 
 pub fresh-spec : {M : Type 1} → statement M

@@ -2,7 +2,7 @@
 use borrow.Author.Needs.{needs}
 use mathlib.Core.Path.{sym, ap, _∙_}
 use Rattle.machine.specs.Calls.{state}
-use Rattle.controller.specs.Told.{statusOf}
+use Rattle.controller.specs.Inner.Told.{statusOf}
 use Rattle.controller.proofs.ByteLaws.{status-is}
 use Rattle.controller.proofs.Controller.status.Statement.{statement}
 use Rattle.controller.proofs.Controller.status.Tie as tie

@@ -7,7 +7,8 @@ use borrow.Author.Tests.{not-true, not-false}
 use lib.ListN.{getD}
 use Rattle.laws.proofs.Pick.{on-true, on-false}
 use Rattle.controller.specs.declared.motion.Share.{Share}
-use Rattle.controller.specs.Inner.{travelAt, positionAt, axisBy}
+use Rattle.controller.specs.Inner.Parts.{travelAt, positionAt}
+use Rattle.controller.specs.Inner.Motion.{axisStepGiven}
 use Rattle.controller.proofs.StepLaws.{grown, axis-down, axis-up, axis-still}
 use Rattle.controller.proofs.motion.axis_step.Statement.{statement}
 use Rattle.controller.proofs.motion.axis_step.Tie as tie
@@ -84,7 +85,7 @@ returns-2 c =
     on-true _ _ _ _ (not-false (q .args .fires) (c .before .before .before .before .before .before .before .if1 .left))
     (axis-down (s .result) (travelAt (q .args .t3) (q .args .k)) (positionAt (q .args .t3) (q .args .k))
     (getD (q .args .t2 .minus) (q .args .k) false) (c .before .before .before .before .if2 .taken) (c .before .before .if3 .taken)
-    ∙ ap (λ (x : Share). axisBy x (travelAt (q .args .t3) (q .args .k)) (positionAt (q .args .t3) (q .args .k))
+    ∙ ap (λ (x : Share). axisStepGiven x (travelAt (q .args .t3) (q .args .k)) (positionAt (q .args .t3) (q .args .k))
     (getD (q .args .t2 .minus) (q .args .k) false)) (s .ensures))
 
 add-t33 : tie.Need-add-t33
@@ -125,7 +126,7 @@ returns-3 c =
     on-true _ _ _ _ (not-false (q .args .fires) (c .before .before .before .before .before .before .before .if1 .left))
     (axis-up (s .result) (travelAt (q .args .t3) (q .args .k)) (positionAt (q .args .t3) (q .args .k))
     (getD (q .args .t2 .minus) (q .args .k) false) (c .before .before .before .before .if2 .taken) (c .before .before .if3 .left)
-    ∙ ap (λ (x : Share). axisBy x (travelAt (q .args .t3) (q .args .k)) (positionAt (q .args .t3) (q .args .k))
+    ∙ ap (λ (x : Share). axisStepGiven x (travelAt (q .args .t3) (q .args .k)) (positionAt (q .args .t3) (q .args .k))
     (getD (q .args .t2 .minus) (q .args .k) false)) (s .ensures))
 
 returns-4 : tie.Need-returns-4
@@ -135,7 +136,7 @@ returns-4 c =
     on-true _ _ _ _ (not-false (q .args .fires) (c .before .before .before .if1 .left))
     (axis-still (s .result) (travelAt (q .args .t3) (q .args .k)) (positionAt (q .args .t3) (q .args .k))
     (getD (q .args .t2 .minus) (q .args .k) false) (c .if2 .left)
-    ∙ ap (λ (x : Share). axisBy x (travelAt (q .args .t3) (q .args .k)) (positionAt (q .args .t3) (q .args .k))
+    ∙ ap (λ (x : Share). axisStepGiven x (travelAt (q .args .t3) (q .args .k)) (positionAt (q .args .t3) (q .args .k))
     (getD (q .args .t2 .minus) (q .args .k) false)) (s .ensures))
 
 pub axis-step-spec : {M : Type 1} → statement M

@@ -6,7 +6,7 @@ use Prim.Native.Nat.{ℕ}
 use mathlib.Core.Path.{refl, sym, ap, _∙_}
 use borrow.Author.Tests.{not-false}
 use Rattle.laws.proofs.Pick.{on-true, on-false}
-use Rattle.controller.specs.Inner.{advancedTo}
+use Rattle.controller.specs.Inner.Motion.{advanceOf}
 use Rattle.controller.proofs.motion.pace.Statement.{statement}
 use Rattle.controller.proofs.motion.pace.Tie as tie
 
@@ -41,7 +41,7 @@ returns-3 c =
     let q = c .before .before .before .before .before .before .args in
     on-false _ _ _ _ (c .before .before .before .before .if1 .left)
     (on-false _ _ _ _ (sym (c .before .before .before .stands .ensures) ∙ c .before .before .if2 .left)
-    (c .advance .ensures ∙ ap (λ (u : ℕ). advancedTo (q .was) u) (c .before .ramp .ensures .0)))
+    (c .advance .ensures ∙ ap (λ (u : ℕ). advanceOf (q .was) u) (c .before .ramp .ensures .0)))
 
 pub pace-spec : {M : Type 1} → statement M
 pace-spec =

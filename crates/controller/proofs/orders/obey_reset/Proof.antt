@@ -2,8 +2,8 @@
 use borrow.Author.Needs.{needs}
 use mathlib.Core.Bool.{Bool, _&&_}
 use mathlib.Core.Path.{ap, _∙_}
-use Rattle.controller.specs.Parts.{withHot}
-use Rattle.controller.specs.Orders.{resetBy}
+use Rattle.controller.specs.Inner.Parts.{withHot}
+use Rattle.controller.specs.Inner.Orders.{obeyResetGiven}
 use Rattle.controller.proofs.orders.obey_reset.Statement.{statement}
 use Rattle.controller.proofs.orders.obey_reset.Tie as tie
 
@@ -18,7 +18,7 @@ returns c =
     let b = c .before .before .before in
     let e = b .before in
     let q = e .before .before .args .c in
-    ap (λ (x : Bool). withHot q (resetBy (q .hot) x))
+    ap (λ (x : Bool). withHot q (obeyResetGiven (q .hot) x))
     (b .both .ensures ∙ ap (λ (x : Bool). q .hot .flags .emergency && x) (e .emergency .ensures))
 
 pub obey-reset-spec : {M : Type 1} → statement M

@@ -2,7 +2,7 @@
 use borrow.Author.Needs.{needs}
 use mathlib.Core.Path.{refl, sym, ap, _∙_}
 use Rattle.laws.proofs.Pick.{on-true, on-false}
-use Rattle.controller.specs.Parts.{withHot}
+use Rattle.controller.specs.Inner.Parts.{withHot}
 use Rattle.controller.proofs.orders.obey_start.Statement.{statement}
 use Rattle.controller.proofs.orders.obey_start.Tie as tie
 

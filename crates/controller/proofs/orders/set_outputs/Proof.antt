@@ -1,6 +1,6 @@
 -- `set_outputs` meets its contract: each return, by the tests and the answers that led there. Assumes nothing.
 use borrow.Author.Needs.{needs}
-use Rattle.controller.specs.Parts.{withHot, withWires, withOutputs}
+use Rattle.controller.specs.Inner.Parts.{withHot, withWires, withOutputs}
 use Rattle.controller.proofs.orders.set_outputs.Statement.{statement}
 use Rattle.controller.proofs.orders.set_outputs.Tie as tie
 
@@ -11,10 +11,7 @@ returns : tie.Need-returns
 returns c =
     let g = c .before .before in
     let q = g .before .args in
-    λ i. withHot (q .c) (withOutputs (withWires (q .c .hot) (record {
-      general = g .general .ensures i;
-      cells = q .c .hot .wires .cells;
-    })) (q .v))
+    λ i. withHot (q .c) (withOutputs (withWires (q .c .hot) (g .general .ensures i) (q .c .hot .wires .cells)) (q .v))
 
 pub set-outputs-spec : {M : Type 1} → statement M
 set-outputs-spec = tie.close (tie.spec general-requires returns)

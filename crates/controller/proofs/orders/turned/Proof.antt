@@ -2,8 +2,8 @@
 use borrow.Author.Needs.{needs}
 use mathlib.Core.Path.{refl}
 use Rattle.laws.proofs.Pick.{on-lt, on-ge}
-use Rattle.controller.specs.Parts.{withHot}
-use Rattle.controller.specs.Orders.{turnedBy}
+use Rattle.controller.specs.Inner.Parts.{withHot}
+use Rattle.controller.specs.Inner.Orders.{turnedGiven}
 use Rattle.controller.proofs.orders.turned.Statement.{statement}
 use Rattle.controller.proofs.orders.turned.Tie as tie
 
@@ -17,7 +17,7 @@ returns-2 : tie.Need-returns-2
 returns-2 c =
     let e = c .before .before in
     let q = e .before .before .args in
-    on-ge _ _ _ _ _ (e .before .if1 .left) (λ i. withHot (q .c) (turnedBy (q .c .hot) (e .either .ensures i)))
+    on-ge _ _ _ _ _ (e .before .if1 .left) (λ i. withHot (q .c) (turnedGiven (q .c .hot) (e .either .ensures i)))
 
 pub turned-spec : {M : Type 1} → statement M
 turned-spec = tie.close (tie.spec returns either-requires returns-2)

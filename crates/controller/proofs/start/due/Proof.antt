@@ -3,7 +3,7 @@ use borrow.Author.Needs.{needs}
 use Prim.Native.Nat.{ℕ}
 use mathlib.Core.Path.{ap, _∙_}
 use Rattle.laws.proofs.Pick.{on-eq, on-ne}
-use Rattle.controller.specs.Inner.{begunOf, failedOf, dueBy}
+use Rattle.controller.specs.Inner.Start.{begunOf, failedOf, dueGiven}
 use Rattle.controller.proofs.start.due.Statement.{statement}
 use Rattle.controller.proofs.start.due.Tie as tie
 
@@ -22,7 +22,7 @@ returns c =
     let n = c .before .before .start-number in
     on-eq (n .result) 0 _ _ (record { hot = failedOf (q .hot) (n .result); number = n .result }) (c .before .if1 .taken)
     (λ i. record { hot = c .begun .ensures i; number = c .before .if1 .taken i })
-    ∙ ap (λ (x : ℕ). dueBy (q .next) (q .settings .polarity) (q .switch) (q .hot) (q .master) x) (n .ensures)
+    ∙ ap (λ (x : ℕ). dueGiven (q .next) (q .settings .polarity) (q .switch) (q .hot) (q .master) x) (n .ensures)
 
 returns-2 : tie.Need-returns-2
 returns-2 c =
@@ -31,7 +31,7 @@ returns-2 c =
     on-ne (n .result) 0 _ (record
     { hot = begunOf (q .next) (q .settings .polarity) (q .switch) (q .hot) (q .master); number = 0 }) _
     (c .before .if1 .left) (λ i. record { hot = c .failed .ensures i; number = n .result })
-    ∙ ap (λ (x : ℕ). dueBy (q .next) (q .settings .polarity) (q .switch) (q .hot) (q .master) x) (n .ensures)
+    ∙ ap (λ (x : ℕ). dueGiven (q .next) (q .settings .polarity) (q .switch) (q .hot) (q .master) x) (n .ensures)
 
 pub due-spec : {M : Type 1} → statement M
 due-spec =

@@ -1,6 +1,6 @@
 -- `failed` meets its contract: each return, by the tests and the answers that led there. Assumes nothing.
 use borrow.Author.Needs.{needs}
-use Rattle.controller.specs.Inner.{failedBy}
+use Rattle.controller.specs.Inner.Start.{failedGiven}
 use Rattle.controller.proofs.start.failed.Statement.{statement}
 use Rattle.controller.proofs.start.failed.Tie as tie
 
@@ -10,7 +10,7 @@ either-requires c κs = search needs
 returns : tie.Need-returns
 returns c =
     let q = c .before .before .args in
-    λ i. failedBy (q .was) (c .either .ensures i)
+    λ i. failedGiven (q .was) (c .either .ensures i)
 
 pub failed-spec : {M : Type 1} → statement M
 failed-spec = tie.close (tie.spec either-requires returns)

@@ -2,7 +2,7 @@
 use borrow.Author.Needs.{needs}
 use mathlib.Core.Path.{sym, _∙_}
 use Rattle.laws.proofs.Some.{some-0, some-1, some-2, some-3, some-4}
-use Rattle.controller.specs.Inner.{leavesAt}
+use Rattle.controller.specs.Inner.Start.{leavesAtOf}
 use Rattle.controller.proofs.start.some_leave.Statement.{statement}
 use Rattle.controller.proofs.start.some_leave.Tie as tie
 
@@ -11,7 +11,7 @@ leaves-at-requires c κs = search needs
 
 returns : tie.Need-returns
 returns c =
-    some-0 (leavesAt (c .before .before .args .next) (c .before .before .args .counters))
+    some-0 (leavesAtOf (c .before .before .args .next) (c .before .before .args .counters))
     (sym (c .before .leaves-at .ensures) ∙ c .if1 .taken)
 
 leaves-at-requires-2 : tie.Need-leaves-at-requires-2
@@ -19,7 +19,7 @@ leaves-at-requires-2 c κs = search needs
 
 returns-2 : tie.Need-returns-2
 returns-2 c =
-    some-1 (leavesAt (c .before .before .before .before .args .next)
+    some-1 (leavesAtOf (c .before .before .before .before .args .next)
     (c .before .before .before .before .args .counters))
     (sym (c .before .before .before .leaves-at .ensures) ∙ c .before .before .if1 .left)
     (sym (c .before .leaves-at2 .ensures) ∙ c .if2 .taken)
@@ -29,7 +29,7 @@ leaves-at-requires-3 c κs = search needs
 
 returns-3 : tie.Need-returns-3
 returns-3 c =
-    some-2 (leavesAt (c .before .before .before .before .before .before .args .next)
+    some-2 (leavesAtOf (c .before .before .before .before .before .before .args .next)
     (c .before .before .before .before .before .before .args .counters))
     (sym (c .before .before .before .before .before .leaves-at .ensures) ∙
     c .before .before .before .before .if1 .left)
@@ -41,7 +41,7 @@ leaves-at-requires-4 c κs = search needs
 
 returns-4 : tie.Need-returns-4
 returns-4 c =
-    some-3 (leavesAt (c .before .before .before .before .before .before .before .before .args .next)
+    some-3 (leavesAtOf (c .before .before .before .before .before .before .before .before .args .next)
     (c .before .before .before .before .before .before .before .before .args .counters))
     (sym (c .before .before .before .before .before .before .before .leaves-at .ensures) ∙
     c .before .before .before .before .before .before .if1 .left)
@@ -55,7 +55,7 @@ leaves-at-requires-5 c κs = search needs
 
 returns-5 : tie.Need-returns-5
 returns-5 c =
-    some-4 (leavesAt (c .before .before .before .before .before .before .before .before .before .args .next)
+    some-4 (leavesAtOf (c .before .before .before .before .before .before .before .before .before .args .next)
     (c .before .before .before .before .before .before .before .before .before .args .counters))
     (sym (c .before .before .before .before .before .before .before .before .leaves-at .ensures) ∙
     c .before .before .before .before .before .before .before .if1 .left)

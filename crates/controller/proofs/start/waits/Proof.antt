@@ -5,7 +5,7 @@ use mathlib.Core.Path.{sym, _∙_}
 use borrow.Author.Tests.{ltb-true}
 use lib.Dec.{eqb, ltb}
 use Rattle.laws.proofs.Pick.{on-true, on-false}
-use Rattle.controller.specs.Parts.{withPause}
+use Rattle.controller.specs.Inner.Parts.{withPause}
 use Rattle.controller.proofs.StepLaws.{and-second}
 use Rattle.controller.proofs.start.waits.Statement.{statement}
 use Rattle.controller.proofs.start.waits.Tie as tie
@@ -41,7 +41,7 @@ returns-2 c =
     let h = c .before .before .before .before .args .hot in
     on-false _ _ _ _ (sym (c .before .before .before .is-due .ensures) ∙ c .before .before .if1 .left)
     (λ i. record {
-      hot = withPause h (record { left = c .before .lessened .ensures i; waiting = h .pause .waiting });
+      hot = withPause h (c .before .lessened .ensures i) (h .pause .waiting);
       number = 0;
     })
 

@@ -2,7 +2,7 @@
 use borrow.Author.Needs.{needs}
 use mathlib.Core.Path.{ap, _∙_}
 use denote.Ref.{now}
-use Rattle.controller.specs.Orders.{zeroed}
+use Rattle.controller.specs.Inner.Orders.{zeroWatchOf}
 use Rattle.controller.proofs.ToldLaws.{obey-silent, obey-told}
 use Rattle.controller.proofs.told.obey.Statement.{statement}
 use Rattle.controller.proofs.told.obey.Tie as tie
@@ -17,7 +17,7 @@ returns : tie.Need-returns
 returns c =
     let q = c .before .before .before .before .args in
     obey-silent (q .c) (q .ident) (now (q .buf)) (q .command) (q .digits) _ _ (c .if1 .taken)
-    (c .before .zero-watch .ensures ∙ ap zeroed (c .before .before .does .ensures))
+    (c .before .zero-watch .ensures ∙ ap zeroWatchOf (c .before .before .does .ensures))
 
 readings-requires : tie.Need-readings-requires
 readings-requires c κs = search needs
@@ -36,7 +36,7 @@ returns-2 c =
     (c .before .before .before .before .readings .result) _ _
     (c .before .before .before .before .before .before .before .before .before .pre .0)
     (c .before .before .before .before .before .if1 .left)
-    (c .before .before .before .before .before .before .zero-watch .ensures ∙ ap zeroed
+    (c .before .before .before .before .before .before .zero-watch .ensures ∙ ap zeroWatchOf
     (c .before .before .before .before .before .before .before .does .ensures))
     (c .before .before .before .before .readings .ensures) (w .ensures .0) (w .ensures .1)
 

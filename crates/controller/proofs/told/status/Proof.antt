@@ -4,7 +4,7 @@ use Prim.Native.Nat.{_+_}
 use mathlib.Core.Bool.{Bool}
 use mathlib.Core.Path.{ap, _∙_}
 use Rattle.laws.specs.Bits.{weight}
-use Rattle.controller.specs.Inner.{blockedIn}
+use Rattle.controller.specs.Inner.Parts.{blockedIn}
 use Rattle.controller.proofs.told.status.Statement.{statement}
 use Rattle.controller.proofs.told.status.Tie as tie
 

@@ -2,7 +2,7 @@
 use borrow.Author.Needs.{needs}
 use mathlib.Core.Path.{refl, _∙_}
 use Rattle.laws.proofs.Pick.{on-true, on-false}
-use Rattle.controller.specs.Inner.{causeOf}
+use Rattle.controller.specs.Inner.Watch.{hasCauseOf}
 use Rattle.controller.proofs.watch.causes.Statement.{statement}
 use Rattle.controller.proofs.watch.causes.Tie as tie
 
@@ -25,7 +25,7 @@ returns-2 c =
     let q = s .before .before .args in
     on-false _ _ _ _ (s .before .if1 .left)
     (λ i. record {
-      any = (c .has-cause .ensures ∙ (λ j. causeOf (q .emergency) (s .sensor .ensures j)
+      any = (c .has-cause .ensures ∙ (λ j. hasCauseOf (q .emergency) (s .sensor .ensures j)
           (l .limit-or-watch .ensures j))) i;
       limit = l .limit-or-watch .ensures i;
       sensor = s .sensor .ensures i;

@@ -1,7 +1,7 @@
 -- `stops` meets its contract: each return, by the tests and the answers that led there. Assumes nothing.
 use borrow.Author.Needs.{needs}
 use mathlib.Core.Path.{ap, _∙_}
-use Rattle.controller.specs.Inner.{metWith, metBy}
+use Rattle.controller.specs.Inner.Watch.{stopsGiven, stopsMet}
 use Rattle.controller.proofs.watch.stops.Statement.{statement}
 use Rattle.controller.proofs.watch.stops.Tie as tie
 
@@ -24,8 +24,8 @@ returns c =
     let stopping = stopped .before in
     let m = stopping .before in
     let h = m .before .before .args .was in
-    (λ i. metWith h (stopping .either .ensures i) (stopped .either2 .ensures i) (sensed .either3 .ensures i))
-    ∙ ap (metBy h) (m .causes .ensures)
+    (λ i. stopsGiven h (stopping .either .ensures i) (stopped .either2 .ensures i) (sensed .either3 .ensures i))
+    ∙ ap (stopsMet h) (m .causes .ensures)
 
 pub stops-spec : {M : Type 1} → statement M
 stops-spec =

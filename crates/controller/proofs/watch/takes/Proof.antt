@@ -3,7 +3,7 @@ use borrow.Author.Needs.{needs}
 use Prim.Native.Nat.{ℕ, _/_}
 use mathlib.Core.Bool.{Bool, _||_}
 use mathlib.Core.Path.{sym, ap, _∙_}
-use Rattle.controller.specs.Inner.{isFull, takesBy}
+use Rattle.controller.specs.Inner.Watch.{isFullOf, takesGiven}
 use Rattle.controller.proofs.watch.takes.Statement.{statement}
 use Rattle.controller.proofs.watch.takes.Tie as tie
 
@@ -27,9 +27,9 @@ returns c =
     let q = e .before .before .args in
     let held = e .either .ensures
     ∙ ap (λ (x : Bool). q .was .flags .emergency || x) (e .before .emergency .ensures) in
-    let full = sym (f .is-full .ensures ∙ ap (λ (n : ℕ). isFull n (q .settings .watch / 2)) (r .raised .ensures))
+    let full = sym (f .is-full .ensures ∙ ap (λ (n : ℕ). isFullOf n (q .settings .watch / 2)) (r .raised .ensures))
     ∙ c .before .if1 .taken in
-    λ i. takesBy (q .was) (q .word) (r .raised .ensures i) (held i) (sym full i)
+    λ i. takesGiven (q .was) (q .word) (r .raised .ensures i) (held i) (sym full i)
 
 returns-2 : tie.Need-returns-2
 returns-2 c =
@@ -39,9 +39,9 @@ returns-2 c =
     let q = e .before .before .args in
     let held = e .either .ensures
     ∙ ap (λ (x : Bool). q .was .flags .emergency || x) (e .before .emergency .ensures) in
-    let full = sym (f .is-full .ensures ∙ ap (λ (n : ℕ). isFull n (q .settings .watch / 2)) (r .raised .ensures))
+    let full = sym (f .is-full .ensures ∙ ap (λ (n : ℕ). isFullOf n (q .settings .watch / 2)) (r .raised .ensures))
     ∙ c .if1 .left in
-    λ i. takesBy (q .was) (q .word) (r .raised .ensures i) (held i) (sym full i)
+    λ i. takesGiven (q .was) (q .word) (r .raised .ensures i) (held i) (sym full i)
 
 pub takes-spec : {M : Type 1} → statement M
 takes-spec =

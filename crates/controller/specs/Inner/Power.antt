@@ -1,4 +1,4 @@
--- What power-on makes, on the values as they are held: a means of proof, as Inner.antt.
+-- What power-on makes, and the characters received: src/lib.rt on held values.
 use Prim.Native.Nat.{ℕ}
 use mathlib.Core.Bool.{Bool, false, _||_}
 use mathlib.Core.List.{[]}
@@ -10,17 +10,19 @@ use Rattle.receiver.specs.declared.Receiver.{Receiver}
 use Rattle.receiver.specs.Receiver.{holding}
 use Rattle.controller.specs.declared.Controller.{Controller}
 use Rattle.controller.specs.declared.hot.Plan.{Plan}
-use Rattle.controller.specs.Parts.{runOf, pauseOf, hotOf, controllerOf}
-use Rattle.controller.specs.Inner.{cellsOf}
+use Rattle.controller.specs.Inner.Parts.{runOf, pauseOf, hotOf, controllerOf, cellsOf}
 
+-- There is no such switch.
 abbrev pub badOf : ℕ → Bool
 badOf switch = ltb 15 switch || eqb switch 12
 
+-- All distances 0, all directions plus.
 abbrev pub freshPlan : Plan
 freshPlan = record { distances = each (λ k. 0); minus = each (λ k. false) }
 
-abbrev pub freshWith : ℕ → ℕ → Cells → Receiver → Controller
-freshWith switch general cells line =
+-- By what the general outputs and each axis add to an output word, and the characters received.
+abbrev pub freshGiven : ℕ → ℕ → Cells → Receiver → Controller
+freshGiven switch general cells line =
     controllerOf
     (hotOf freshPlan (record {
       travels = each (λ k. record { 0 = 0 });
@@ -31,8 +33,9 @@ freshWith switch general cells line =
     (record { wrong = false; stopped = false; emergency = false; sensed = false }))
     (record { speed = 10000; slope = 16; dwell = 0; polarity = 0; low = 0; high = 0; watch = 0 }) freshPlan line switch
 
+-- V 10,000, a 16, all else 0, watch off.
 abbrev pub freshOf : ℕ → Controller
-freshOf switch = freshWith switch (generalOf switch 0) (cellsOf switch 0 (each (λ k. false))) (holding [])
+freshOf switch = freshGiven switch (generalOf switch 0) (cellsOf switch 0 (each (λ k. false))) (holding [])
 
 -- The controller with the characters received so far.
 abbrev pub lineWith : Controller → Receiver → Controller

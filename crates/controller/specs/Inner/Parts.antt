@@ -1,8 +1,16 @@
--- The held records by their parts: these are the places that name all fields of one. A means of proof, as Inner.antt.
+-- The held records by their parts: these are the places that name all fields of one.
 use Prim.Native.Nat.{ℕ}
-use mathlib.Core.Bool.{Bool, cond}
+use mathlib.Core.Bool.{Bool, false, cond}
+use mathlib.Core.List.{List}
 use lib.Dec.{eqb}
+use lib.ListN.{getD}
+use Rattle.laws.specs.Axes.{each}
+use Rattle.inputs.specs.Inputs.{someBlocked}
+use Rattle.outputs.specs.declared.Cells.{Cells}
+use Rattle.outputs.specs.Outputs.{restOf, fireOf}
 use Rattle.receiver.specs.declared.Receiver.{Receiver}
+use Rattle.reply.specs.declared.Travel.{Travel}
+use Rattle.reply.specs.declared.Position.{Position}
 use Rattle.controller.specs.declared.Controller.{Controller}
 use Rattle.controller.specs.declared.hot.Hot.{Hot}
 use Rattle.controller.specs.declared.hot.Settings.{Settings}
@@ -70,48 +78,77 @@ abbrev pub controllerOf : Hot → Settings → Plan → Receiver → ℕ → Con
 controllerOf hot settings next line switch =
     record { hot = hot; cold = record { settings = settings; next = next; line = line; switch = switch } }
 
--- ---- Hot with one part replaced
+-- ---- Hot with one part replaced, all others as they are
 
 abbrev pub withCounters : Hot → Counters → Hot
 withCounters h x =
     hotOf (h .plan) x (h .run) (h .wires) (h .pause) (h .inputs) (h .outputs) (h .watch) (h .flags)
 
-abbrev pub withRun : Hot → Run → Hot
-withRun h x =
-    hotOf (h .plan) (h .counters) x (h .wires) (h .pause) (h .inputs) (h .outputs) (h .watch) (h .flags)
+-- Whether the move is being stopped.
+abbrev pub withStopping : Hot → Bool → Hot
+withStopping h x =
+    hotOf (h .plan) (h .counters)
+    (runOf (h .run .length) (h .run .gone) (h .run .speed) (h .run .phase) (h .run .master) (h .run .moving) x)
+    (h .wires) (h .pause) (h .inputs) (h .outputs) (h .watch) (h .flags)
 
 -- What the general outputs and each axis add to an output word.
-abbrev pub withWires : Hot → Wires → Hot
-withWires h x =
-    hotOf (h .plan) (h .counters) (h .run) x (h .pause) (h .inputs) (h .outputs) (h .watch) (h .flags)
+abbrev pub withWires : Hot → ℕ → Cells → Hot
+withWires h general cells =
+    hotOf (h .plan) (h .counters) (h .run) (record { general = general; cells = cells }) (h .pause) (h .inputs)
+    (h .outputs) (h .watch) (h .flags)
 
-abbrev pub withPause : Hot → Pause → Hot
-withPause h x =
-    hotOf (h .plan) (h .counters) (h .run) (h .wires) x (h .inputs) (h .outputs) (h .watch) (h .flags)
+abbrev pub withPause : Hot → ℕ → ℕ → Hot
+withPause h left waiting =
+    hotOf (h .plan) (h .counters) (h .run) (h .wires) (pauseOf left waiting) (h .inputs) (h .outputs) (h .watch)
+    (h .flags)
 
-abbrev pub withInputs : Hot → ℕ → Hot
-withInputs h x =
-    hotOf (h .plan) (h .counters) (h .run) (h .wires) (h .pause) x (h .outputs) (h .watch) (h .flags)
-
+-- The general outputs.
 abbrev pub withOutputs : Hot → ℕ → Hot
 withOutputs h x =
     hotOf (h .plan) (h .counters) (h .run) (h .wires) (h .pause) (h .inputs) x (h .watch) (h .flags)
 
+-- The watch count.
 abbrev pub withWatch : Hot → ℕ → Hot
 withWatch h x =
     hotOf (h .plan) (h .counters) (h .run) (h .wires) (h .pause) (h .inputs) (h .outputs) x (h .flags)
 
-abbrev pub withFlags : Hot → Flags → Hot
-withFlags h x =
-    hotOf (h .plan) (h .counters) (h .run) (h .wires) (h .pause) (h .inputs) (h .outputs) (h .watch) x
+-- One flag, by the number of its status bit.
+abbrev pub withFlag : Hot → ℕ → Bool → Hot
+withFlag h number b =
+    hotOf (h .plan) (h .counters) (h .run) (h .wires) (h .pause) (h .inputs) (h .outputs) (h .watch)
+    (mark (h .flags) number b)
 
 -- ---- The controller with one part replaced
 
 abbrev pub withHot : Controller → Hot → Controller
 withHot c h = record { hot = h; cold = c .cold }
 
-abbrev pub withSettings : Controller → Settings → Controller
-withSettings c x = controllerOf (c .hot) x (c .cold .next) (c .cold .line) (c .cold .switch)
+-- One setting, by its code.
+abbrev pub withSetting : Controller → ℕ → ℕ → Controller
+withSetting c code v =
+    controllerOf (c .hot) (put (c .cold .settings) code v) (c .cold .next) (c .cold .line) (c .cold .switch)
 
+-- The next move's distances and directions.
 abbrev pub withNext : Controller → Plan → Controller
 withNext c x = controllerOf (c .hot) (c .cold .settings) x (c .cold .line) (c .cold .switch)
+
+-- ---- What is read of them
+
+-- An axis's travel, and its position.
+abbrev pub travelAt : Counters → ℕ → Travel
+travelAt c k = getD (c .travels) k (record { 0 = 0 })
+
+abbrev pub positionAt : Counters → ℕ → Position
+positionAt c k = getD (c .positions) k (record { 0 = 0 })
+
+-- Some axis of a plan is blocked by the inputs.
+abbrev pub blockedIn : Settings → ℕ → Plan → Bool
+blockedIn s inputs p =
+    someBlocked (s .low) (s .high) inputs (λ k. getD (p .distances) k 0) (λ k. getD (p .minus) k false)
+
+-- What each axis adds to an output word.
+abbrev pub cellsOf : ℕ → ℕ → List Bool → Cells
+cellsOf switch polarity minus = record {
+  rests = each (restOf switch polarity (λ k. getD minus k false));
+  fires = each (fireOf switch polarity (λ k. getD minus k false));
+}

@@ -1,0 +1,199 @@
+-- Ramp and pulses of a tick: src/motion.rt on held values.
+use Prim.Native.Nat.{ℕ, _+_, _-_, _*_, _%_, _≤_, _<_}
+use mathlib.Core.Bool.{Bool, true, false, cond, not, _&&_}
+use mathlib.Core.List.{[], _∷_}
+use mathlib.Core.Path.{_≡_}
+use lib.Dec.{ltb, leb, eqb}
+use lib.IntN.{pos}
+use lib.ListN.{getD}
+use Rattle.laws.specs.Axes.{each, directed}
+use Rattle.machine.specs.Ramp as ramp
+use Rattle.machine.specs.Outputs.{word}
+use Rattle.machine.specs.Ramp.{full, braked, towards}
+use Rattle.reply.specs.declared.Travel.{Travel}
+use Rattle.reply.specs.declared.Position.{Position}
+use Rattle.controller.specs.declared.hot.Hot.{Hot}
+use Rattle.controller.specs.declared.hot.Settings.{Settings}
+use Rattle.controller.specs.declared.hot.Plan.{Plan}
+use Rattle.controller.specs.declared.hot.Run.{Run}
+use Rattle.controller.specs.declared.hot.Counters.{Counters}
+use Rattle.controller.specs.declared.hot.Wires.{Wires}
+use Rattle.controller.specs.declared.motion.Share.{Share}
+use Rattle.controller.specs.declared.motion.Axis.{Axis}
+use Rattle.controller.specs.declared.motion.Paced.{Paced}
+use Rattle.controller.specs.declared.motion.Ran.{Ran}
+use Rattle.controller.specs.Held.{heldHot}
+use Rattle.controller.specs.Inner.Parts.{runOf, pauseOf, hotOf, travelAt, positionAt}
+
+-- ---- Ramp
+
+-- The speed of this tick.
+abbrev pub rampOf : Settings → Run → ℕ
+rampOf s r =
+    cond (r .stopping) (r .speed - s .slope)
+    (cond (leb (2 * s .slope * ((r .length - r .gone) * full - r .phase)) (r .speed * r .speed))
+    (braked (r .speed) (s .slope))
+    (towards (r .speed) (50 * s .speed) (s .slope)))
+
+-- What keeps its products in 64 bits.
+pub record RampFits (s : Settings) (r : Run) : Type 0 where
+  pub now : r .speed ≤ full
+  pub speed : s .speed ≤ 1000000
+  pub slope : s .slope ≤ 4095
+  pub length : r .length ≤ 524287
+  pub gone : r .gone < r .length
+  pub phase : r .phase < full
+
+-- ---- Shares
+
+-- The remainder grows by the distance and gives up a whole length as a pulse.
+abbrev pub shareStepOf : ℕ → ℕ → ℕ → Share
+shareStepOf remainder distance length =
+    record { remainder = (remainder + distance) % length; on = leb length (remainder + distance) }
+
+-- The position one step further.
+abbrev pub axisStepPosition : Position → Bool → Position
+axisStepPosition p minus = cond minus (record { 0 = p .0 - 1 }) (record { 0 = p .0 + 1 })
+
+-- One axis by its share, travel, position and direction.
+abbrev pub axisStepGiven : Share → Travel → Position → Bool → Axis
+axisStepGiven s t p minus =
+    cond (s .on)
+    (record {
+      travel = record { 0 = t .0 + 1 };
+      position = axisStepPosition p minus;
+      remainder = s .remainder;
+      on = true;
+      pulse = directed minus 1;
+    })
+    (record { travel = t; position = p; remainder = s .remainder; on = false; pulse = pos 0 })
+
+-- One axis in a tick, by whether the master pulses in it.
+abbrev pub axisStepOf : Bool → Plan → Counters → ℕ → ℕ → Axis
+axisStepOf fires p c length k =
+    cond fires
+    (axisStepGiven (shareStepOf (getD (c .remainders) k 0) (getD (p .distances) k 0) length) (travelAt c k)
+    (positionAt c k) (getD (p .minus) k false))
+    (axisStepGiven (record { remainder = getD (c .remainders) k 0; on = false }) (travelAt c k) (positionAt c k)
+    (getD (p .minus) k false))
+
+-- What keeps the counts of an axis in range at a master pulse.
+pub record AxisFits (p : Plan) (c : Counters) (length k : ℕ) : Type 0 where
+  pub index : k < 5
+  pub small : getD (c .remainders) k 0 < length
+  pub short : getD (p .distances) k 0 ≤ length
+  pub bound : length ≤ 524287
+  pub grows : length ≤ getD (c .remainders) k 0 + getD (p .distances) k 0 → travelAt c k .0 < getD (p .distances) k 0
+  pub low : getD (p .minus) k false ≡ true → getD (p .distances) k 0 ≤ travelAt c k .0 + positionAt c k .0
+  pub high : getD (p .minus) k false ≡ false → positionAt c k .0 + getD (p .distances) k 0 ≤ 1048575 + travelAt c k .0
+
+-- The same in any tick.
+abbrev pub AxisStepFits : Bool → Plan → Counters → ℕ → ℕ → Type 0
+AxisStepFits fires p c length k = fires ≡ true → AxisFits p c length k
+
+-- ---- Output words by their parts
+
+-- What an axis adds to the first word.
+abbrev pub levelOf : Wires → ℕ → Bool → ℕ
+levelOf w k on = cond on (getD (w .cells .fires) k 0) (getD (w .cells .rests) k 0)
+
+-- The output word in which these axes pulse.
+abbrev pub wordOf : Wires → Bool → Bool → Bool → Bool → Bool → ℕ
+wordOf w a b c d e =
+    w .general + levelOf w 0 a + levelOf w 1 b + levelOf w 2 c + levelOf w 3 d + levelOf w 4 e
+
+-- The output word at rest.
+abbrev pub restOf : Wires → ℕ
+restOf w = wordOf w false false false false false
+
+-- What keeps a word's sum in range.
+pub record WiresFit (w : Wires) : Type 0 where
+  pub general : w .general < 16777216
+  pub rests : (k : ℕ) → k < 5 → getD (w .cells .rests) k 0 < 16777216
+  pub fires : (k : ℕ) → k < 5 → getD (w .cells .fires) k 0 < 16777216
+
+-- ---- A tick of a move
+
+-- A stop has come down to the slope.
+abbrev pub standsOf : Run → ℕ → Bool
+standsOf r slope = r .stopping && leb (r .speed) slope
+
+-- The move has ended: speed and phase 0.
+abbrev pub atRestOf : Run → ℕ → Run
+atRestOf r gone = runOf (r .length) gone 0 0 (r .master) false false
+
+-- The move goes on.
+abbrev pub underWayOf : Run → ℕ → ℕ → ℕ → Run
+underWayOf r gone speed phase = runOf (r .length) gone speed phase (r .master) (r .moving) (r .stopping)
+
+-- By whether the phase is short of full, and whether the next pulse is the last.
+abbrev pub advanceGiven : Run → ℕ → Bool → Bool → Paced
+advanceGiven r speed short last =
+    cond short (record { run = underWayOf r (r .gone) speed (r .phase + speed); fires = false; ends = false })
+    (cond last (record { run = atRestOf r (r .gone + 1); fires = true; ends = true })
+    (record { run = underWayOf r (r .gone + 1) speed (r .phase + speed - full); fires = true; ends = false }))
+
+-- The phase grows by the speed, and the master pulses where it is full.
+abbrev pub advanceOf : Run → ℕ → Paced
+advanceOf r speed = advanceGiven r speed (ltb (r .phase + speed) full) (eqb (r .gone + 1) (r .length))
+
+-- By whether a move runs, whether a stop has come down to the slope, and what else comes of the tick.
+abbrev pub paceGiven : Run → Bool → Bool → Paced → Paced
+paceGiven r moving stands goes =
+    cond (not moving) (record { run = r; fires = false; ends = false })
+    (cond stands (record { run = atRestOf r (r .gone); fires = false; ends = true }) goes)
+
+-- The run after a tick of the ramp, whether the master pulses in it, and whether the move ends in it.
+abbrev pub paceOf : Settings → Run → Paced
+paceOf s r = paceGiven r (r .moving) (standsOf r (s .slope)) (advanceOf r (rampOf s r))
+
+-- What it needs.
+abbrev pub PaceFits : Settings → Run → Type 0
+PaceFits s r = r .moving ≡ true → RampFits s r
+
+-- The end of a move begins a dwell.
+abbrev pub dwellLeftOf : Bool → ℕ → ℕ → ℕ
+dwellLeftOf ends dwell left = cond ends (250 * dwell) left
+
+-- Hot with what a tick alters in it.
+abbrev pub steppedOf : Hot → Run → ℕ → Axis → Axis → Axis → Axis → Axis → Hot
+steppedOf h run left a b c d e =
+    hotOf (h .plan) (record {
+      travels = a .travel ∷ b .travel ∷ c .travel ∷ d .travel ∷ e .travel ∷ [];
+      remainders = a .remainder ∷ b .remainder ∷ c .remainder ∷ d .remainder ∷ e .remainder ∷ [];
+      positions = a .position ∷ b .position ∷ c .position ∷ d .position ∷ e .position ∷ [];
+    })
+    run (h .wires) (pauseOf left (h .pause .waiting)) (h .inputs) (h .outputs) (h .watch) (h .flags)
+
+-- By the run, the dwell and the five axes after the tick.
+abbrev pub runsGiven : Hot → Run → ℕ → Axis → Axis → Axis → Axis → Axis → Ran
+runsGiven h run left a b c d e = record {
+  hot = steppedOf h run left a b c d e;
+  pulses = a .pulse ∷ b .pulse ∷ c .pulse ∷ d .pulse ∷ e .pulse ∷ [];
+  first = wordOf (h .wires) (a .on) (b .on) (c .on) (d .on) (e .on);
+}
+
+-- One axis of the five.
+abbrev pub runsAxis : Hot → Bool → ℕ → Axis
+runsAxis h fires k = axisStepOf fires (h .plan) (h .counters) (h .run .length) k
+
+-- By the tick of the ramp.
+abbrev pub runsPaced : Settings → Hot → Paced → Ran
+runsPaced s h p =
+    runsGiven h (p .run) (dwellLeftOf (p .ends) (s .dwell) (h .pause .left)) (runsAxis h (p .fires) 0)
+    (runsAxis h (p .fires) 1) (runsAxis h (p .fires) 2) (runsAxis h (p .fires) 3) (runsAxis h (p .fires) 4)
+
+-- What ramp and pulses leave, the pulses, and the first output word.
+abbrev pub runsOf : Settings → Hot → Ran
+runsOf s h = runsPaced s h (paceOf s (h .run))
+
+-- What they need.
+pub record RunFits (s : Settings) (h : Hot) : Type 0 where
+  pub wires : WiresFit (h .wires)
+  pub dwell : s .dwell ≤ 16383
+  pub ramp : PaceFits s (h .run)
+  pub axes : h .run .moving ≡ true → (k : ℕ) → k < 5 → AxisFits (h .plan) (h .counters) (h .run .length) k
+
+-- What a tick's ramp leaves of a machine, as it is held, with the pulses and the first word.
+abbrev pub heldRan : ramp.Ran → Ran
+heldRan r = record { hot = heldHot (r .machine); first = word (r .machine) (r .pulse) true; pulses = each (r .pulse) }

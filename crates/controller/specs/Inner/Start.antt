@@ -1,0 +1,107 @@
+-- A start, what turns it away, and the dwell that it may wait for: src/start.rt on held values.
+use Prim.Native.Nat.{ℕ, _+_, _-_, _≤_, _<_}
+use mathlib.Core.Bool.{Bool, true, false, cond, _&&_, _||_}
+use mathlib.Core.List.{List}
+use lib.Dec.{ltb, eqb}
+use lib.ListN.{getD}
+use Rattle.laws.specs.Axes.{each, some}
+use Rattle.inputs.specs.Inputs.{activeAt}
+use Rattle.outputs.specs.declared.Cells.{Cells}
+use Rattle.reply.specs.declared.Position.{Position}
+use Rattle.controller.specs.declared.hot.Hot.{Hot}
+use Rattle.controller.specs.declared.hot.Settings.{Settings}
+use Rattle.controller.specs.declared.hot.Plan.{Plan}
+use Rattle.controller.specs.declared.hot.Counters.{Counters}
+use Rattle.controller.specs.declared.start.Waited.{Waited}
+use Rattle.controller.specs.Inner.Parts.{
+  mark,
+  runOf,
+  pauseOf,
+  hotOf,
+  withPause,
+  withFlag,
+  positionAt,
+  blockedIn,
+  cellsOf,
+}
+
+-- Some axis is longer than the master.
+abbrev pub longerOf : List ℕ → ℕ → Bool
+longerOf distances length = some (λ k. ltb length (getD distances k 0))
+
+-- A position leaves its range in so many steps.
+abbrev pub leavesOf : Position → Bool → ℕ → Bool
+leavesOf p minus distance = cond minus (ltb (p .0) distance) (ltb 1048575 (p .0 + distance))
+
+-- An axis leaves it.
+abbrev pub leavesAtOf : Plan → Counters → ℕ → Bool
+leavesAtOf next c k = leavesOf (positionAt c k) (getD (next .minus) k false) (getD (next .distances) k 0)
+
+-- Some axis leaves it.
+abbrev pub someLeaveOf : Plan → Counters → Bool
+someLeaveOf next c = some (leavesAtOf next c)
+
+-- The number that turns a start with this master away, or 0.
+abbrev pub startNumberOf : Settings → Plan → Hot → ℕ → ℕ
+startNumberOf s next h master =
+    cond (h .flags .emergency) 12
+    (cond (activeAt (s .low) (s .high) (h .inputs) 13) 13
+    (cond (longerOf (next .distances) (getD (next .distances) master 0)) 14
+    (cond (eqb (getD (next .distances) master 0) 0) 15
+    (cond (blockedIn s (h .inputs) next) 16
+    (cond (someLeaveOf next (h .counters)) 17
+    0)))))
+
+-- What it needs.
+pub record StartFits (next : Plan) (c : Counters) : Type 0 where
+  pub distance : (k : ℕ) → k < 5 → getD (next .distances) k 0 ≤ 524287
+  pub position : (k : ℕ) → k < 5 → positionAt c k .0 ≤ 1048575
+
+-- By what each axis adds to an output word.
+abbrev pub begunGiven : Plan → Hot → ℕ → Cells → Hot
+begunGiven next h master cells =
+    hotOf next (record {
+      travels = each (λ k. record { 0 = 0 });
+      remainders = each (λ k. 0);
+      positions = h .counters .positions;
+    })
+    (runOf (getD (next .distances) master 0) 0 0 0 master true false)
+    (record { general = h .wires .general; cells = cells }) (pauseOf 0 0) (h .inputs) (h .outputs) (h .watch)
+    (mark (mark (h .flags) 3 false) 6 false)
+
+-- A move begins: travels and remainders 0, bits 3 and 6 cleared, no dwell, no waiting start.
+abbrev pub begunOf : Plan → ℕ → ℕ → Hot → ℕ → Hot
+begunOf next polarity switch h master = begunGiven next h master (cellsOf switch polarity (next .minus))
+
+-- By bit 2.
+abbrev pub failedGiven : Hot → Bool → Hot
+failedGiven h wrong = withPause (withFlag h 2 wrong) 0 0
+
+-- A waiting start that failed is dropped; 14 sets bit 2.
+abbrev pub failedOf : Hot → ℕ → Hot
+failedOf h n = failedGiven h (h .flags .wrong || eqb n 14)
+
+-- By the start's number.
+abbrev pub dueGiven : Plan → ℕ → ℕ → Hot → ℕ → ℕ → Waited
+dueGiven next polarity switch h master n =
+    cond (eqb n 0) (record { hot = begunOf next polarity switch h master; number = 0 })
+    (record { hot = failedOf h n; number = n })
+
+-- The dwell has come to its end, and a waiting start is tried.
+abbrev pub dueOf : Settings → Plan → ℕ → Hot → ℕ → Waited
+dueOf s next switch h master = dueGiven next (s .polarity) switch h master (startNumberOf s next h master)
+
+-- The dwell ends in this tick and a start waits for it.
+abbrev pub isDueOf : ℕ → ℕ → Bool
+isDueOf left waiting = eqb left 1 && ltb 0 waiting
+
+-- The dwell counted down and, where it becomes 0, a waiting start tried.
+abbrev pub waitsOf : Settings → Plan → ℕ → Hot → Waited
+waitsOf s next switch h =
+    cond (isDueOf (h .pause .left) (h .pause .waiting)) (dueOf s next switch h (h .pause .waiting - 1))
+    (record { hot = withPause h (h .pause .left - 1) (h .pause .waiting); number = 0 })
+
+-- What it needs.
+pub record WaitFits (next : Plan) (h : Hot) : Type 0 where
+  pub waiting : h .pause .waiting ≤ 5
+  pub start : StartFits next (h .counters)
