@@ -1,9 +1,11 @@
 mod CalmLaws
+mod AxisLaws
 mod StepLaws
 mod ToldLaws
 pub mod TickLaws
 pub mod StartLaws
 pub mod PulseLaws
+mod NeedLaws
 pub mod StageLaws
 pub mod ByteLaws
 pub mod EntryLaws

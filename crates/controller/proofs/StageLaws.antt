@@ -21,7 +21,8 @@ use Rattle.controller.specs.Inner.Watch.{stopsOf}
 use Rattle.controller.specs.Inner.Start.{waitsOf, WaitFits}
 use Rattle.controller.proofs.TickLaws.{stops-is, rest-is}
 use Rattle.controller.proofs.StartLaws.{waits-is, wait-fits}
-use Rattle.controller.proofs.PulseLaws.{run-is, run-fits}
+use Rattle.controller.proofs.PulseLaws.{run-is}
+use Rattle.controller.proofs.NeedLaws.{run-fits}
 
 -- ---- What only bytes alter
 

@@ -51,12 +51,14 @@ or-true true = refl
 or-true false = refl
 
 module _ (m : Machine) where
-  limit-is : limitOrWatchOf (heldSettings (m .settings)) (heldPlan (m .move .plan)) (m .inputs) (m .watch) ≡ limitOrWatch m
+  limit-is : limitOrWatchOf (heldSettings (m .settings)) (heldPlan (m .move .plan)) (m .inputs) (m .watch)
+      ≡ limitOrWatch m
   limit-is = ap (λ (b : Bool). blocked m (m .move .plan) || leb 1000000 (m .watch) && b) (test-odd (m .settings .watch))
 
   pub stops-is : stopsOf (heldSettings (m .settings)) (heldHot m) ≡ heldHot (stops m)
   stops-is =
-      ap (λ (b : Bool). stopsMet (heldHot m) (causesGiven (m .move .moving) (m .flags .emergency) (sensorActive m) b)) limit-is
+      ap (λ (b : Bool). stopsMet (heldHot m) (causesGiven (m .move .moving) (m .flags .emergency) (sensorActive m) b))
+      limit-is
       ∙ when (m .move .moving) (m .flags .emergency) (sensorActive m) (limitOrWatch m)
     where
       unmet : stopsMet (heldHot m) (record { any = false; limit = false; sensor = false }) ≡ heldHot m
@@ -68,7 +70,8 @@ module _ (m : Machine) where
           → stopsMet (heldHot m) (record { any = true; limit = limit; sensor = sensor })
           ≡ heldHot (withFlags (withMove m (stopping (m .move))) (marks (m .flags) limit sensor))
       met sensor limit = λ i.
-          stopsGiven (heldHot m) (or-true (m .move .stopping) i) (m .flags .stopped || limit) (m .flags .sensed || sensor)
+          stopsGiven (heldHot m) (or-true (m .move .stopping) i) (m .flags .stopped || limit)
+          (m .flags .sensed || sensor)
 
       when : (moving emergency sensor limit : Bool)
           → stopsMet (heldHot m) (causesGiven moving emergency sensor limit)

@@ -72,8 +72,8 @@ setAxisOf c k s d =
 -- The polarity, and what each axis adds to an output word under it.
 abbrev pub setPolarityOf : Controller → ℕ → Controller
 setPolarityOf c v =
-    withSetting (withHot c (withWires (c .hot) (c .hot .wires .general) (cellsOf (c .cold .switch) v (c .hot .plan .minus))))
-    12 v
+    withSetting
+    (withHot c (withWires (c .hot) (c .hot .wires .general) (cellsOf (c .cold .switch) v (c .hot .plan .minus)))) 12 v
 
 -- The general outputs, and what they add to an output word.
 abbrev pub setOutputsOf : Controller → ℕ → Controller
