@@ -17,8 +17,8 @@ use Rattle.machine.proofs.FitLaws.{Fits}
 use Rattle.controller.specs.declared.hot.Hot.{Hot}
 use Rattle.controller.specs.declared.motion.Axis.{Axis}
 use Rattle.controller.specs.declared.motion.Ran.{Ran}
-use Rattle.controller.specs.Held.{heldSettings, heldPlan, heldRun, heldHot}
-use Rattle.controller.specs.Inner.Parts.{pauseOf, hotOf}
+use Rattle.controller.specs.Held.{heldSettings, heldRun, heldHot}
+use Rattle.controller.specs.Inner.Parts.{withCounters, withRun, withPause}
 use Rattle.controller.specs.Inner.Motion.{
   shareStepOf,
   axisStepGiven,
@@ -90,14 +90,13 @@ module _ (m : Machine) (f : Fits m) (e : m .move .moving ≡ true) where
     -- Hot after the pulse, the master's travel being n: a run that has ended, or one that goes on.
     abbrev landed : Bool → ℕ → Hot
     landed last n =
-        hotOf (heldPlan (m .move .plan)) (record {
+        withPause (withRun (withCounters (heldHot m) (record {
           travels = each (λ k. record { 0 = share (m .move) (reached (m .move)) k });
           remainders = each (λ k. n * m .move .plan .distance k % whole (m .move));
           positions = each (λ k. record { 0 = bias (m .position k +ℤ pulse (m .move) (reached (m .move)) k) });
-        })
-        (cond last (atRestOf (heldRun (m .move)) n) (underWayOf (heldRun (m .move)) n u phase)) (heldHot m .wires)
-        (pauseOf (dwellLeftOf last (m .settings .dwell) (m .pause .left)) (heldHot m .pause .waiting)) (m .inputs)
-        (m .outputs) (m .watch) (heldHot m .flags)
+        }))
+        (cond last (atRestOf (heldRun (m .move)) n) (underWayOf (heldRun (m .move)) n u phase)))
+        (dwellLeftOf last (m .settings .dwell) (m .pause .left)) (heldHot m .pause .waiting)
 
     -- The master's own share is its travel.
     landed-is : (last : Bool)

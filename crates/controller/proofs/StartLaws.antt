@@ -18,8 +18,8 @@ use Rattle.machine.specs.Steps.{Tried, untried, failed, began, tryWaiting, tryS
 use Rattle.machine.proofs.PositionLaws.{bias-small, leaves, leaves-is}
 use Rattle.machine.proofs.FitLaws.{Fits, WaitingFits}
 use Rattle.controller.specs.declared.start.Waited.{Waited}
-use Rattle.controller.specs.Held.{heldSettings, heldPlan, heldFlags, heldWaiting, heldHot}
-use Rattle.controller.specs.Inner.Parts.{runOf, pauseOf, hotOf, withPause, positionAt}
+use Rattle.controller.specs.Held.{heldSettings, heldPlan, heldWaiting, heldHot}
+use Rattle.controller.specs.Inner.Parts.{runOf, withCounters, withRun, withPause, positionAt}
 use Rattle.controller.specs.Inner.Start.{
   startNumberOf,
   StartFits,
@@ -82,13 +82,11 @@ pub begun-is : (m : Machine) (k : ℕ) → k < 5
     → begunOf (heldPlan (m .next)) (m .settings .polarity) (m .switch) (heldHot m) k ≡ heldHot (begun m k)
 unfolding restOf fireOf
 begun-is m k h = λ i.
-    hotOf (heldPlan (m .next)) (record {
+    withRun (withCounters (heldHot (begun m k)) (record {
       travels = each (λ j. record { 0 = 0 });
       remainders = rest 0 i ∷ rest 1 i ∷ rest 2 i ∷ rest 3 i ∷ rest 4 i ∷ [];
       positions = heldHot m .counters .positions;
-    })
-    (runOf (each-at (m .next .distance) 0 k h i) 0 0 0 k true false) (heldHot (begun m k) .wires) (pauseOf 0 0)
-    (m .inputs) (m .outputs) (m .watch) (heldFlags (begun m k .flags))
+    })) (runOf (each-at (m .next .distance) 0 k h i) 0 0 0 k true false)
   where
     rest : (j : ℕ) → 0 ≡ 0 * m .next .distance j % m .next .distance k
     rest j = no-remainder (m .next .distance j) (m .next .distance k)

@@ -16,8 +16,8 @@ use Rattle.outputs.proofs.Words.{word-rest, word-still, small}
 use Rattle.machine.specs.State.{Machine, withMove, withFlags}
 use Rattle.machine.specs.Stops.{takes, stops, stopping, marks, blocked, sensorActive, watchFull, limitOrWatch}
 use Rattle.machine.specs.Outputs.{word}
-use Rattle.controller.specs.Held.{heldSettings, heldPlan, heldFlags, heldHot}
-use Rattle.controller.specs.Inner.Parts.{hotOf}
+use Rattle.controller.specs.Held.{heldSettings, heldPlan, heldHot}
+use Rattle.controller.specs.Inner.Parts.{withWires}
 use Rattle.controller.specs.Inner.Motion.{restOf, WiresFit}
 use Rattle.controller.specs.Inner.Watch.{takesOf, limitOrWatchOf, causesGiven, stopsGiven, stopsMet, stopsOf}
 
@@ -34,11 +34,8 @@ general-clear s o false = refl
 
 pub takes-is : (m : Machine) (w : ℕ) → takesOf (heldSettings (m .settings)) (heldHot m) w ≡ heldHot (takes m w)
 takes-is m w = λ i.
-    hotOf (heldHot m .plan) (heldHot m .counters) (heldHot m .run) (record {
-      general = general-clear (m .switch) (m .outputs) (watchFull (takes m w) 1) i;
-      cells = heldHot m .wires .cells;
-    })
-    (heldHot m .pause) w (takes m w .outputs) (takes m w .watch) (heldFlags (takes m w .flags))
+    withWires (heldHot (takes m w)) (general-clear (m .switch) (m .outputs) (watchFull (takes m w) 1) i)
+    (heldHot m .wires .cells)
 
 -- ---- Stops
 

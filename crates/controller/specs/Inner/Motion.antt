@@ -23,7 +23,7 @@ use Rattle.controller.specs.declared.motion.Axis.{Axis}
 use Rattle.controller.specs.declared.motion.Paced.{Paced}
 use Rattle.controller.specs.declared.motion.Ran.{Ran}
 use Rattle.controller.specs.Held.{heldHot}
-use Rattle.controller.specs.Inner.Parts.{runOf, pauseOf, hotOf, travelAt, positionAt}
+use Rattle.controller.specs.Inner.Parts.{runOf, withCounters, withRun, withPause, travelAt, positionAt}
 
 -- ---- Ramp
 
@@ -158,12 +158,11 @@ dwellLeftOf ends dwell left = cond ends (250 * dwell) left
 -- Hot with what a tick alters in it.
 abbrev pub steppedOf : Hot → Run → ℕ → Axis → Axis → Axis → Axis → Axis → Hot
 steppedOf h run left a b c d e =
-    hotOf (h .plan) (record {
+    withPause (withRun (withCounters h (record {
       travels = a .travel ∷ b .travel ∷ c .travel ∷ d .travel ∷ e .travel ∷ [];
       remainders = a .remainder ∷ b .remainder ∷ c .remainder ∷ d .remainder ∷ e .remainder ∷ [];
       positions = a .position ∷ b .position ∷ c .position ∷ d .position ∷ e .position ∷ [];
-    })
-    run (h .wires) (pauseOf left (h .pause .waiting)) (h .inputs) (h .outputs) (h .watch) (h .flags)
+    })) run) left (h .pause .waiting)
 
 -- By the run, the dwell and the five axes after the tick.
 abbrev pub runsGiven : Hot → Run → ℕ → Axis → Axis → Axis → Axis → Axis → Ran

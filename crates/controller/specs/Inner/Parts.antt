@@ -80,16 +80,20 @@ controllerOf hot settings next line switch =
 
 -- ---- Hot with one part replaced, all others as they are
 
+-- What each axis counts.
 abbrev pub withCounters : Hot → Counters → Hot
 withCounters h x =
     hotOf (h .plan) x (h .run) (h .wires) (h .pause) (h .inputs) (h .outputs) (h .watch) (h .flags)
 
+-- The latest move.
+abbrev pub withRun : Hot → Run → Hot
+withRun h x =
+    hotOf (h .plan) (h .counters) x (h .wires) (h .pause) (h .inputs) (h .outputs) (h .watch) (h .flags)
+
 -- Whether the move is being stopped.
 abbrev pub withStopping : Hot → Bool → Hot
 withStopping h x =
-    hotOf (h .plan) (h .counters)
-    (runOf (h .run .length) (h .run .gone) (h .run .speed) (h .run .phase) (h .run .master) (h .run .moving) x)
-    (h .wires) (h .pause) (h .inputs) (h .outputs) (h .watch) (h .flags)
+    withRun h (runOf (h .run .length) (h .run .gone) (h .run .speed) (h .run .phase) (h .run .master) (h .run .moving) x)
 
 -- What the general outputs and each axis add to an output word.
 abbrev pub withWires : Hot → ℕ → Cells → Hot
@@ -97,10 +101,16 @@ withWires h general cells =
     hotOf (h .plan) (h .counters) (h .run) (record { general = general; cells = cells }) (h .pause) (h .inputs)
     (h .outputs) (h .watch) (h .flags)
 
+-- The dwell: the ticks left, and the start that waits.
 abbrev pub withPause : Hot → ℕ → ℕ → Hot
 withPause h left waiting =
     hotOf (h .plan) (h .counters) (h .run) (h .wires) (pauseOf left waiting) (h .inputs) (h .outputs) (h .watch)
     (h .flags)
+
+-- The last tick's input word.
+abbrev pub withInputs : Hot → ℕ → Hot
+withInputs h x =
+    hotOf (h .plan) (h .counters) (h .run) (h .wires) (h .pause) x (h .outputs) (h .watch) (h .flags)
 
 -- The general outputs.
 abbrev pub withOutputs : Hot → ℕ → Hot
@@ -120,6 +130,7 @@ withFlag h number b =
 
 -- ---- The controller with one part replaced
 
+-- What a tick may alter.
 abbrev pub withHot : Controller → Hot → Controller
 withHot c h = record { hot = h; cold = c .cold }
 
@@ -134,10 +145,11 @@ withNext c x = controllerOf (c .hot) (c .cold .settings) x (c .cold .line) (c .c
 
 -- ---- What is read of them
 
--- An axis's travel, and its position.
+-- An axis's travel.
 abbrev pub travelAt : Counters → ℕ → Travel
 travelAt c k = getD (c .travels) k (record { 0 = 0 })
 
+-- An axis's position, with 524,288 added.
 abbrev pub positionAt : Counters → ℕ → Position
 positionAt c k = getD (c .positions) k (record { 0 = 0 })
 

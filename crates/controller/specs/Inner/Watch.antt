@@ -8,7 +8,7 @@ use Rattle.controller.specs.declared.hot.Hot.{Hot}
 use Rattle.controller.specs.declared.hot.Settings.{Settings}
 use Rattle.controller.specs.declared.hot.Plan.{Plan}
 use Rattle.controller.specs.declared.watch.Met.{Met}
-use Rattle.controller.specs.Inner.Parts.{mark, hotOf, withStopping, withFlag, blockedIn}
+use Rattle.controller.specs.Inner.Parts.{withStopping, withWires, withInputs, withOutputs, withWatch, withFlag, blockedIn}
 
 -- The watch count, up to 1,000,000.
 abbrev pub raisedOf : ℕ → ℕ
@@ -21,9 +21,10 @@ isFullOf watch setting = leb 1000000 watch && eqb (setting % 2) 1
 -- By the watch count, whether emergency is held, and whether the general outputs are cleared.
 abbrev pub takesGiven : Hot → ℕ → ℕ → Bool → Bool → Hot
 takesGiven h word watch emergency clears =
-    hotOf (h .plan) (h .counters) (h .run)
-    (record { general = cond clears 0 (h .wires .general); cells = h .wires .cells }) (h .pause) word
-    (cond clears 0 (h .outputs)) watch (mark (h .flags) 5 emergency)
+    withOutputs
+    (withWires (withFlag (withWatch (withInputs h word) watch) 5 emergency) (cond clears 0 (h .wires .general))
+    (h .wires .cells))
+    (cond clears 0 (h .outputs))
 
 -- Inputs taken, the watch count raised, an active emergency held, the general outputs cleared at a full count.
 abbrev pub takesOf : Settings → Hot → ℕ → Hot
