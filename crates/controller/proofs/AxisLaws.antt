@@ -96,7 +96,8 @@ module _ (d M m t : ℕ) (p : m < M) (s : Share d M m t) where
         none true = refl
         none false = refl
 
-    pub axis-is : axisStepGiven (shareStepOf (m * d % M) d M) (record { 0 = t }) (record { 0 = bias z }) minus ≡ axisAfter
+    pub axis-is : axisStepGiven (shareStepOf (m * d % M) d M) (record { 0 = t }) (record { 0 = bias z }) minus
+        ≡ axisAfter
     axis-is =
         (λ i. axisStepGiven (record { remainder = remainder-next d M m i; on = grows-is i }) (record { 0 = t })
         (record { 0 = bias z }) minus)

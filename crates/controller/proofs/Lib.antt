@@ -1,5 +1,6 @@
 mod CalmLaws
 mod AxisLaws
+mod RampLaws
 mod StepLaws
 mod ToldLaws
 pub mod TickLaws

@@ -115,8 +115,8 @@ module _ (m : Machine) (f : Fits m) (e : m .move .moving ≡ true) where
         ≡ heldRan (record { machine = landing m u phase last; pulse = pulse (m .move) (reached (m .move)) })
     pulsed-is last =
         (λ i. runsGiven (heldHot m) (landed last (reached (m .move)) .run)
-        (landed last (reached (m .move)) .pause .left) (step-axis 0 (lit< tt) i) (step-axis 1 (lit< tt) i) (step-axis 2 (lit< tt) i) (step-axis 3 (lit< tt) i)
-        (step-axis 4 (lit< tt) i))
+        (landed last (reached (m .move)) .pause .left) (step-axis 0 (lit< tt) i) (step-axis 1 (lit< tt) i)
+        (step-axis 2 (lit< tt) i) (step-axis 3 (lit< tt) i) (step-axis 4 (lit< tt) i))
         ∙ (λ i. record {
           hot = landed-is last i;
           pulses = each (pulse (m .move) (reached (m .move)));

@@ -1,5 +1,5 @@
--- Laws of one share step and one axis, over plain values. Assumes nothing.
-use Prim.Native.Nat.{ℕ, _+_, _-_, _%_, _≤_, _<_, min, max}
+-- What the code of a tick of a move answers, from what its parts answer, over plain values. Assumes nothing.
+use Prim.Native.Nat.{ℕ, _+_, _-_, _%_, _≤_, _<_}
 use mathlib.Core.Bool.{Bool, true, false, cond, _&&_}
 use mathlib.Core.Path.{_≡_, refl, sym, ap, _∙_}
 use native.Mathlib.Omega.{arith}
@@ -10,8 +10,7 @@ use lib.IntN.{pos, negsuc}
 use mir.Syntax.{w8}
 use mir.Val.{toZ, ofZ}
 use lib.ListN.{getD}
-use Rattle.laws.proofs.Pick.{on-le, on-gt}
-use Rattle.machine.specs.Ramp.{braked, towards}
+use Rattle.laws.proofs.Pick.{on-true}
 use Rattle.reply.specs.declared.Travel.{Travel}
 use Rattle.reply.specs.declared.Position.{Position}
 use Rattle.controller.specs.declared.motion.Share.{Share}
@@ -19,13 +18,18 @@ use Rattle.controller.specs.declared.motion.Axis.{Axis}
 use Rattle.controller.specs.declared.motion.Paced.{Paced}
 use Rattle.controller.specs.declared.motion.Ran.{Ran}
 use Rattle.controller.specs.declared.hot.Hot.{Hot}
+use Rattle.controller.specs.declared.hot.Plan.{Plan}
 use Rattle.controller.specs.declared.hot.Run.{Run}
+use Rattle.controller.specs.declared.hot.Counters.{Counters}
 use Rattle.controller.specs.declared.hot.Settings.{Settings}
 use Rattle.controller.specs.Inner.Parts.{travelAt, positionAt}
 use Rattle.controller.specs.Inner.Motion.{
   rampOf,
   shareStepOf,
   axisStepGiven,
+  axisStepOf,
+  AxisFits,
+  AxisStepFits,
   runsAxis,
   wordOf,
   standsOf,
@@ -37,6 +41,7 @@ use Rattle.controller.specs.Inner.Motion.{
   steppedOf,
   runsGiven,
   runsPaced,
+  RunFits,
 }
 
 pub mod-once : (n m : ℕ) → m ≤ n → n < m + m → n - m ≡ n % m
@@ -52,38 +57,7 @@ share-on r d M h k l =
 pub share-off : (r d M : ℕ) → r + d < M → _≡_ {A = Share} (record { remainder = r + d; on = false }) (shareStepOf r d M)
 share-off r d M h = λ i. record { remainder = sym (mod-eq-of-lt h) i; on = sym (lt-leb M (r + d) h) i }
 
--- An axis pulses where the remainder and the distance come to a whole length.
-pub grown : (s : Share) (r d M : ℕ) → s ≡ shareStepOf r d M → s .on ≡ true → M ≤ r + d
-grown s r d M e h = leb-true M (r + d) (sym (ap (λ (x : Share). x .on) e) ∙ h)
-
 module _ (s : Share) (t : Travel) (p : Position) (minus : Bool) where
-  pub axis-down : s .on ≡ true → minus ≡ true
-      → _≡_ {A = Axis} (record {
-        travel = record { 0 = t .0 + 1 };
-        position = record { 0 = p .0 - 1 };
-        remainder = s .remainder;
-        on = true;
-        pulse = negsuc 0;
-      })
-      (axisStepGiven s t p minus)
-  axis-down e f = rw (e, f)
-
-  pub axis-up : s .on ≡ true → minus ≡ false
-      → _≡_ {A = Axis} (record {
-        travel = record { 0 = t .0 + 1 };
-        position = record { 0 = p .0 + 1 };
-        remainder = s .remainder;
-        on = true;
-        pulse = pos 1;
-      })
-      (axisStepGiven s t p minus)
-  axis-up e f = rw (e, f)
-
-  pub axis-still : s .on ≡ false
-      → _≡_ {A = Axis} (record { travel = t; position = p; remainder = s .remainder; on = false; pulse = pos 0 })
-      (axisStepGiven s t p minus)
-  axis-still e = rw e
-
   -- The pulse after it went through eight bits.
   pub axis-bits : toZ w8 (ofZ w8 (axisStepGiven s t p minus .pulse)) ≡ axisStepGiven s t p minus .pulse
   axis-bits = when (s .on) minus
@@ -94,6 +68,55 @@ module _ (s : Share) (t : Travel) (p : Position) (minus : Bool) where
       when true true = refl
       when true false = refl
       when false m = refl
+
+-- An axis at a master pulse, by the tests that the code makes.
+module _ (plan : Plan) (c : Counters) (length k : ℕ) (s : Share)
+    (q : s ≡ shareStepOf (getD (c .remainders) k 0) (getD (plan .distances) k 0) length) where
+  -- Where it pulses, it is short of its distance.
+  pub axis-short : AxisFits plan c length k → s .on ≡ true → travelAt c k .0 < getD (plan .distances) k 0
+  axis-short f h =
+      f .grows (leb-true length (getD (c .remainders) k 0 + getD (plan .distances) k 0)
+      (sym (ap (λ (x : Share). x .on) q) ∙ h))
+
+  module _ (fires : Bool) (e : fires ≡ true) where
+    step : (x : Axis) → x ≡ axisStepGiven s (travelAt c k) (positionAt c k) (getD (plan .minus) k false)
+        → x ≡ axisStepOf fires plan c length k
+    step x p =
+        on-true _ _ _ _ e (p ∙ ap (λ (y : Share). axisStepGiven y (travelAt c k) (positionAt c k)
+        (getD (plan .minus) k false)) q)
+
+    pub axis-down : s .on ≡ true → getD (plan .minus) k false ≡ true
+        → _≡_ {A = Axis} (record {
+          travel = record { 0 = travelAt c k .0 + 1 };
+          position = record { 0 = positionAt c k .0 - 1 };
+          remainder = s .remainder;
+          on = true;
+          pulse = negsuc 0;
+        })
+        (axisStepOf fires plan c length k)
+    axis-down h m = step _ (rw (h, m))
+
+    pub axis-up : s .on ≡ true → getD (plan .minus) k false ≡ false
+        → _≡_ {A = Axis} (record {
+          travel = record { 0 = travelAt c k .0 + 1 };
+          position = record { 0 = positionAt c k .0 + 1 };
+          remainder = s .remainder;
+          on = true;
+          pulse = pos 1;
+        })
+        (axisStepOf fires plan c length k)
+    axis-up h m = step _ (rw (h, m))
+
+    pub axis-still : s .on ≡ false
+        → _≡_ {A = Axis} (record {
+          travel = travelAt c k;
+          position = positionAt c k;
+          remainder = s .remainder;
+          on = false;
+          pulse = pos 0;
+        })
+        (axisStepOf fires plan c length k)
+    axis-still h = step _ (rw h)
 
 -- ---- A tick of the ramp
 
@@ -137,37 +160,17 @@ module _ (s : Settings) (h : Hot) where
       (λ i. runsPaced s h (ep i)))
 
 -- Where the master pulses, a move runs.
-pub fires-moving : (s : Settings) (r : Run) (p : Paced) → p ≡ paceOf s r → p .fires ≡ true → r .moving ≡ true
+fires-moving : (s : Settings) (r : Run) (p : Paced) → p ≡ paceOf s r → p .fires ≡ true → r .moving ≡ true
 fires-moving s r p e f = when (r .moving) (sym (ap (λ (x : Paced). x .fires) e) ∙ f)
   where
     when : (b : Bool) → paceGiven r b (standsOf r (s .slope)) (advanceOf r (rampOf s r)) .fires ≡ true → b ≡ true
     when true q = refl
     when false q = q
 
--- ---- The ramp's two ways, by the tests that the code makes
-
-module _ (u target a : ℕ) where
-  pub up-there : u ≤ target → target - u ≤ a → target ≡ towards u target a
-  up-there h k = on-le u target target (min (u + a) target) (max (u - a) target) h (omega arith)
-
-  pub up-some : u ≤ target → a < target - u → u + a ≡ towards u target a
-  up-some h k = on-le u target (u + a) (min (u + a) target) (max (u - a) target) h (omega arith)
-
-  pub down-there : target < u → u - target ≤ a → target ≡ towards u target a
-  down-there h k = on-gt u target target (min (u + a) target) (max (u - a) target) h (omega arith)
-
-  pub down-some : target < u → a < u - target → u - a ≡ towards u target a
-  down-some h k = on-gt u target (u - a) (min (u + a) target) (max (u - a) target) h (omega arith)
-
-module _ (u a : ℕ) where
-  pub brake-low : u ≤ a → u ≡ braked u a
-  brake-low h = on-le u a u u (max (u - a) a) h refl
-
-  pub brake-near : a < u → u - a ≤ a → a ≡ braked u a
-  brake-near h k = on-gt u a a u (max (u - a) a) h (omega arith)
-
-  pub brake-far : a < u → a < u - a → u - a ≡ braked u a
-  brake-far h k = on-gt u a (u - a) u (max (u - a) a) h (omega arith)
+-- So each axis is in range for its step.
+pub axes-fit : (s : Settings) (h : Hot) (p : Paced) → p ≡ paceOf s (h .run) → RunFits s h → (k : ℕ) → k < 5
+    → (k < 5) × AxisStepFits (p .fires) (h .plan) (h .counters) (h .run .length) k
+axes-fit s h p e f k l = (l, λ q. f .axes (fires-moving s (h .run) p e q) k l)
 
 -- ---- Tests
 

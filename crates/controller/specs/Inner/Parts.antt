@@ -93,7 +93,8 @@ withRun h x =
 -- Whether the move is being stopped.
 abbrev pub withStopping : Hot → Bool → Hot
 withStopping h x =
-    withRun h (runOf (h .run .length) (h .run .gone) (h .run .speed) (h .run .phase) (h .run .master) (h .run .moving) x)
+    withRun h
+    (runOf (h .run .length) (h .run .gone) (h .run .speed) (h .run .phase) (h .run .master) (h .run .moving) x)
 
 -- What the general outputs and each axis add to an output word.
 abbrev pub withWires : Hot → ℕ → Cells → Hot

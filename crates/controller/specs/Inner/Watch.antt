@@ -8,7 +8,15 @@ use Rattle.controller.specs.declared.hot.Hot.{Hot}
 use Rattle.controller.specs.declared.hot.Settings.{Settings}
 use Rattle.controller.specs.declared.hot.Plan.{Plan}
 use Rattle.controller.specs.declared.watch.Met.{Met}
-use Rattle.controller.specs.Inner.Parts.{withStopping, withWires, withInputs, withOutputs, withWatch, withFlag, blockedIn}
+use Rattle.controller.specs.Inner.Parts.{
+  withStopping,
+  withWires,
+  withInputs,
+  withOutputs,
+  withWatch,
+  withFlag,
+  blockedIn,
+}
 
 -- The watch count, up to 1,000,000.
 abbrev pub raisedOf : ℕ → ℕ

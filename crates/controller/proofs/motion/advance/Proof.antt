@@ -31,7 +31,8 @@ under-way-requires-2 c κs = search needs
 
 returns-3 : tie.Need-returns-3
 returns-3 c = on-ge _ _ _ _ _ (c .before .before .before .before .if1 .left)
-    (on-ne _ _ _ _ _ (c .before .if2 .left) (λ i. record { run = c .under-way2 .ensures i; fires = true; ends = false }))
+    (on-ne _ _ _ _ _ (c .before .if2 .left)
+    (λ i. record { run = c .under-way2 .ensures i; fires = true; ends = false }))
 
 pub advance-spec : {M : Type 1} → statement M
 advance-spec =

@@ -1,6 +1,6 @@
 -- `approach` meets its contract: each return, by the tests and the answers that led there. Assumes nothing.
 use borrow.Author.Needs.{needs}
-use Rattle.controller.proofs.StepLaws.{up-there, up-some, down-there, down-some}
+use Rattle.controller.proofs.RampLaws.{up-there, up-some, down-there, down-some}
 use Rattle.controller.proofs.motion.approach.Statement.{statement}
 use Rattle.controller.proofs.motion.approach.Tie as tie
 

@@ -1,15 +1,10 @@
 -- `axis_step` meets its contract: each return, by the tests and the answers that led there. Assumes nothing.
 use borrow.Author.Needs.{needs}
 use native.Mathlib.Omega.{arith}
-use mathlib.Core.Bool.{false}
-use mathlib.Core.Path.{refl, ap, _∙_}
+use mathlib.Core.Path.{refl}
 use borrow.Author.Tests.{not-true, not-false}
-use lib.ListN.{getD}
-use Rattle.laws.proofs.Pick.{on-true, on-false}
-use Rattle.controller.specs.declared.motion.Share.{Share}
-use Rattle.controller.specs.Inner.Parts.{travelAt, positionAt}
-use Rattle.controller.specs.Inner.Motion.{axisStepGiven}
-use Rattle.controller.proofs.StepLaws.{grown, axis-down, axis-up, axis-still}
+use Rattle.laws.proofs.Pick.{on-false}
+use Rattle.controller.proofs.StepLaws.{axis-short, axis-down, axis-up, axis-still}
 use Rattle.controller.proofs.motion.axis_step.Statement.{statement}
 use Rattle.controller.proofs.motion.axis_step.Tie as tie
 
@@ -51,93 +46,69 @@ element-copy-out-if3 c = search needs
 
 add-t29 : tie.Need-add-t29
 add-t29 c =
-    let q = c .before .before .before .before .before .before .before .before .before .before in
-    let s = c .before .before .before .before .share-step in
-    let r = getD (q .args .t3 .remainders) (q .args .k) 0 in
-    let d = getD (q .args .t2 .distances) (q .args .k) 0 in
-    let f = q .pre .1 (not-false (q .args .fires) (c .before .before .before .before .before .before .if1 .left)) in
-    omega (
-      arith,
-      f .grows (grown (s .result) r d (q .args .length) (s .ensures)
-          (c .before .before .before .if2 .taken)),
-      f .short,
-      f .bound,
-    )
+    let t = c .before .before .before in
+    let s = t .before in
+    let q = s .before .before .before .before .before .before in
+    let f = q .pre .1 (not-false (q .args .fires) (s .before .before .if1 .left)) in
+    let h = axis-short (q .args .t2) (q .args .t3) (q .args .length) (q .args .k) (s .share-step .result)
+    (s .share-step .ensures) f (t .if2 .taken) in
+    omega (arith, h, f .short, f .bound)
 
 sub-t31 : tie.Need-sub-t31
 sub-t31 c =
-    let q = c .before .before .before .before .before .before .before .before .before .before .before in
-    let s = c .before .before .before .before .before .share-step in
-    let r = getD (q .args .t3 .remainders) (q .args .k) 0 in
-    let d = getD (q .args .t2 .distances) (q .args .k) 0 in
-    let f = q .pre .1 (not-false (q .args .fires) (c .before .before .before .before .before .before .before .if1 .left)) in
-    omega (
-      arith,
-      f .grows (grown (s .result) r d (q .args .length) (s .ensures)
-          (c .before .before .before .before .if2 .taken)),
-      f .low (c .before .before .if3 .taken),
-    )
+    let t = c .before .before .before .before in
+    let s = t .before in
+    let q = s .before .before .before .before .before .before in
+    let f = q .pre .1 (not-false (q .args .fires) (s .before .before .if1 .left)) in
+    let h = axis-short (q .args .t2) (q .args .t3) (q .args .length) (q .args .k) (s .share-step .result)
+    (s .share-step .ensures) f (t .if2 .taken) in
+    omega (arith, h, f .low (c .before .before .if3 .taken))
 
 returns-2 : tie.Need-returns-2
 returns-2 c =
-    let q = c .before .before .before .before .before .before .before .before .before .before .before in
-    let s = c .before .before .before .before .before .share-step in
-    on-true _ _ _ _ (not-false (q .args .fires) (c .before .before .before .before .before .before .before .if1 .left))
-    (axis-down (s .result) (travelAt (q .args .t3) (q .args .k)) (positionAt (q .args .t3) (q .args .k))
-    (getD (q .args .t2 .minus) (q .args .k) false) (c .before .before .before .before .if2 .taken) (c .before .before .if3 .taken)
-    ∙ ap (λ (x : Share). axisStepGiven x (travelAt (q .args .t3) (q .args .k)) (positionAt (q .args .t3) (q .args .k))
-    (getD (q .args .t2 .minus) (q .args .k) false)) (s .ensures))
+    let t = c .before .before .before .before in
+    let s = t .before in
+    let q = s .before .before .before .before .before .before in
+    axis-down (q .args .t2) (q .args .t3) (q .args .length) (q .args .k) (s .share-step .result)
+    (s .share-step .ensures) (q .args .fires) (not-false (q .args .fires) (s .before .before .if1 .left))
+    (t .if2 .taken) (c .before .before .if3 .taken)
 
 add-t33 : tie.Need-add-t33
 add-t33 c =
-    let q = c .before .before .before .before .before .before .before .before .before .before in
-    let s = c .before .before .before .before .share-step in
-    let r = getD (q .args .t3 .remainders) (q .args .k) 0 in
-    let d = getD (q .args .t2 .distances) (q .args .k) 0 in
-    let f = q .pre .1 (not-false (q .args .fires) (c .before .before .before .before .before .before .if1 .left)) in
-    omega (
-      arith,
-      f .grows (grown (s .result) r d (q .args .length) (s .ensures)
-          (c .before .before .before .if2 .taken)),
-      f .short,
-      f .bound,
-    )
+    let t = c .before .before .before in
+    let s = t .before in
+    let q = s .before .before .before .before .before .before in
+    let f = q .pre .1 (not-false (q .args .fires) (s .before .before .if1 .left)) in
+    let h = axis-short (q .args .t2) (q .args .t3) (q .args .length) (q .args .k) (s .share-step .result)
+    (s .share-step .ensures) f (t .if2 .taken) in
+    omega (arith, h, f .short, f .bound)
 
 add-t35 : tie.Need-add-t35
 add-t35 c =
-    let q = c .before .before .before .before .before .before .before .before .before .before .before in
-    let s = c .before .before .before .before .before .share-step in
-    let r = getD (q .args .t3 .remainders) (q .args .k) 0 in
-    let d = getD (q .args .t2 .distances) (q .args .k) 0 in
-    let f = q .pre .1 (not-false (q .args .fires) (c .before .before .before .before .before .before .before .if1 .left)) in
-    omega (
-      arith,
-      f .grows (grown (s .result) r d (q .args .length) (s .ensures)
-          (c .before .before .before .before .if2 .taken)),
-      f .high (c .before .before .if3 .left),
-      f .short,
-      f .bound,
-    )
+    let t = c .before .before .before .before in
+    let s = t .before in
+    let q = s .before .before .before .before .before .before in
+    let f = q .pre .1 (not-false (q .args .fires) (s .before .before .if1 .left)) in
+    let h = axis-short (q .args .t2) (q .args .t3) (q .args .length) (q .args .k) (s .share-step .result)
+    (s .share-step .ensures) f (t .if2 .taken) in
+    omega (arith, h, f .high (c .before .before .if3 .left), f .short, f .bound)
 
 returns-3 : tie.Need-returns-3
 returns-3 c =
-    let q = c .before .before .before .before .before .before .before .before .before .before .before in
-    let s = c .before .before .before .before .before .share-step in
-    on-true _ _ _ _ (not-false (q .args .fires) (c .before .before .before .before .before .before .before .if1 .left))
-    (axis-up (s .result) (travelAt (q .args .t3) (q .args .k)) (positionAt (q .args .t3) (q .args .k))
-    (getD (q .args .t2 .minus) (q .args .k) false) (c .before .before .before .before .if2 .taken) (c .before .before .if3 .left)
-    ∙ ap (λ (x : Share). axisStepGiven x (travelAt (q .args .t3) (q .args .k)) (positionAt (q .args .t3) (q .args .k))
-    (getD (q .args .t2 .minus) (q .args .k) false)) (s .ensures))
+    let t = c .before .before .before .before in
+    let s = t .before in
+    let q = s .before .before .before .before .before .before in
+    axis-up (q .args .t2) (q .args .t3) (q .args .length) (q .args .k) (s .share-step .result)
+    (s .share-step .ensures) (q .args .fires) (not-false (q .args .fires) (s .before .before .if1 .left))
+    (t .if2 .taken) (c .before .before .if3 .left)
 
 returns-4 : tie.Need-returns-4
 returns-4 c =
-    let q = c .before .before .before .before .before .before .before in
-    let s = c .before .share-step in
-    on-true _ _ _ _ (not-false (q .args .fires) (c .before .before .before .if1 .left))
-    (axis-still (s .result) (travelAt (q .args .t3) (q .args .k)) (positionAt (q .args .t3) (q .args .k))
-    (getD (q .args .t2 .minus) (q .args .k) false) (c .if2 .left)
-    ∙ ap (λ (x : Share). axisStepGiven x (travelAt (q .args .t3) (q .args .k)) (positionAt (q .args .t3) (q .args .k))
-    (getD (q .args .t2 .minus) (q .args .k) false)) (s .ensures))
+    let s = c .before in
+    let q = s .before .before .before .before .before .before in
+    axis-still (q .args .t2) (q .args .t3) (q .args .length) (q .args .k) (s .share-step .result)
+    (s .share-step .ensures) (q .args .fires) (not-false (q .args .fires) (s .before .before .if1 .left))
+    (c .if2 .left)
 
 pub axis-step-spec : {M : Type 1} → statement M
 axis-step-spec =

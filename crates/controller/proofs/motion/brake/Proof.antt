@@ -1,6 +1,6 @@
 -- `brake` meets its contract: each return, by the tests and the answers that led there. Assumes nothing.
 use borrow.Author.Needs.{needs}
-use Rattle.controller.proofs.StepLaws.{brake-low, brake-near, brake-far}
+use Rattle.controller.proofs.RampLaws.{brake-low, brake-near, brake-far}
 use Rattle.controller.proofs.motion.brake.Statement.{statement}
 use Rattle.controller.proofs.motion.brake.Tie as tie
 

@@ -1,7 +1,7 @@
 -- `runs` meets its contract, by the answers of its callees. Assumes nothing.
 use borrow.Author.Needs.{needs}
 use native.Mathlib.Omega.{arith}
-use Rattle.controller.proofs.StepLaws.{ran-is, fires-moving}
+use Rattle.controller.proofs.StepLaws.{ran-is, axes-fit}
 use Rattle.controller.proofs.motion.runs.Statement.{statement}
 use Rattle.controller.proofs.motion.runs.Tie as tie
 
@@ -11,42 +11,31 @@ pace-requires c κs = search needs
 axis-step-requires : tie.Need-axis-step-requires
 axis-step-requires c κs =
     let q = c .before .before .before .before .before in
-    let p = c .pace in (
-      omega arith,
-      λ f. q .pre .axes (fires-moving (q .args .settings) (q .args .hot .run) (p .result) (p .ensures) f) 0 (omega arith),
-    )
+    axes-fit (q .args .settings) (q .args .hot) (c .pace .result) (c .pace .ensures) (q .pre) 0 (omega arith)
 
 axis-step-requires-2 : tie.Need-axis-step-requires-2
 axis-step-requires-2 c κs =
-    let q = c .before .before .before .before .before .before in
-    let p = c .before .pace in (
-      omega arith,
-      λ f. q .pre .axes (fires-moving (q .args .settings) (q .args .hot .run) (p .result) (p .ensures) f) 1 (omega arith),
-    )
+    let p = c .before in
+    let q = p .before .before .before .before .before in
+    axes-fit (q .args .settings) (q .args .hot) (p .pace .result) (p .pace .ensures) (q .pre) 1 (omega arith)
 
 axis-step-requires-3 : tie.Need-axis-step-requires-3
 axis-step-requires-3 c κs =
-    let q = c .before .before .before .before .before .before .before in
-    let p = c .before .before .pace in (
-      omega arith,
-      λ f. q .pre .axes (fires-moving (q .args .settings) (q .args .hot .run) (p .result) (p .ensures) f) 2 (omega arith),
-    )
+    let p = c .before .before in
+    let q = p .before .before .before .before .before in
+    axes-fit (q .args .settings) (q .args .hot) (p .pace .result) (p .pace .ensures) (q .pre) 2 (omega arith)
 
 axis-step-requires-4 : tie.Need-axis-step-requires-4
 axis-step-requires-4 c κs =
-    let q = c .before .before .before .before .before .before .before .before in
-    let p = c .before .before .before .pace in (
-      omega arith,
-      λ f. q .pre .axes (fires-moving (q .args .settings) (q .args .hot .run) (p .result) (p .ensures) f) 3 (omega arith),
-    )
+    let p = c .before .before .before in
+    let q = p .before .before .before .before .before in
+    axes-fit (q .args .settings) (q .args .hot) (p .pace .result) (p .pace .ensures) (q .pre) 3 (omega arith)
 
 axis-step-requires-5 : tie.Need-axis-step-requires-5
 axis-step-requires-5 c κs =
-    let q = c .before .before .before .before .before .before .before .before .before in
-    let p = c .before .before .before .before .pace in (
-      omega arith,
-      λ f. q .pre .axes (fires-moving (q .args .settings) (q .args .hot .run) (p .result) (p .ensures) f) 4 (omega arith),
-    )
+    let p = c .before .before .before .before in
+    let q = p .before .before .before .before .before in
+    axes-fit (q .args .settings) (q .args .hot) (p .pace .result) (p .pace .ensures) (q .pre) 4 (omega arith)
 
 word-requires : tie.Need-word-requires
 word-requires c κs =
