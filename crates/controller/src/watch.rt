@@ -1,6 +1,6 @@
 // The tick's first stages and its stop causes (paper 01, "Stops", tick order).
 ghost use mathlib.Core.Path.{_≡_};
-ghost use Prim.Native.Nat.{_/_, min, _+_};
+ghost use Prim.Native.Nat.{_/_, _+_};
 ghost use Rattle.controller.specs.Inner.Watch.{
   raisedOf,
   isFullOf,
