@@ -1,14 +1,19 @@
 // What every bench program runs (paper 01, "Host end and program"): reads standard input to its end, and writes what
-// each byte of it prints before it reads on. What the bytes do is the proved work of `session`; here they are read, and
-// what is printed is written out. The bytes that a read brings are all taken, each once and in order.
+// the bytes of a read print, at once, before it reads on. What the bytes do is the proved work of `session`; here they
+// are read, and what is printed is written out. The bytes that a read brings are all taken, each once and in order.
 // Assumes nothing beyond the contracts of the C functions that read and write.
+ghost use Prim.Native.Nat.{_+_, _≤_};
 ghost use mathlib.Core.Path.{_≡_};
+ghost use lib.ListN.{length};
 ghost use Rattle.session.specs.Lines.{after};
 ghost use Rattle.session.specs.Session.{taken, heldBench, Running, Runs};
 use libc::STDERR_FILENO;
 use libc::STDIN_FILENO;
 use libc::STDOUT_FILENO;
 use session::Session;
+
+// Where the output buffer of a read, 65,536 bytes, has 120 bytes left.
+const ROOM: usize = 65416;
 
 // What is to be done after a read.
 enum Next {
@@ -26,7 +31,19 @@ struct Turn {
     next: Next,
 }
 
-// The session after some bytes, and whether the output took all that they print.
+// The session after some bytes, and the length of what they print.
+struct Printed {
+    session: Session,
+    length: usize,
+}
+
+// The length of what waits to be written, and whether the output took all that was written.
+struct Waiting {
+    length: usize,
+    written: bool,
+}
+
+// The session after the bytes of a read, and whether the output took all that they print.
 struct Passed {
     session: Session,
     written: bool,
@@ -42,38 +59,58 @@ fn print(written: bool, buf: &[u8], length: usize) -> bool {
     io::write_all(STDOUT_FILENO, printed)
 }
 
-// One byte of the input.
-fn pass_byte(s: Session, written: bool, b: u8) -> Passed
+// Writes what waits where there is no room left for what a byte prints.
+fn make_room(waiting: Waiting, out: &[u8]) -> Waiting
+    ensures { λ r. ⌜ r .length ≤ 65416 ⌝ }
+{
+    if waiting.length <= ROOM {
+        return waiting;
+    }
+    let written = print(waiting.written, out, waiting.length);
+    Waiting { length: 0, written }
+}
+
+// One byte of the input. What it prints stands in `out` behind the `at` bytes that stand there.
+fn pass_byte(s: Session, out: &mut [u8], at: usize, b: u8) -> Printed
     requires { ⌜ Running s ⌝ }
+    requires { ⌜ at + 120 ≤ length (now out) ⌝ }
     ensures { λ r. ⌜ Running (r .session) ⌝ }
+    ensures { λ r. ⌜ r .length ≤ length (now (out .entry)) ⌝ }
     ensures { λ r. ⌜ Runs s (λ x. r .session ≡ heldBench (taken x b .bench)) ⌝ }
 {
-    let mut buf = [0u8; 120];
-    let taken = s.take(&mut buf, b);
-    let took = print(written, &buf, taken.length);
+    let taken = s.take(&mut out[at..], b);
     let session = taken.session;
-    Passed {
+    Printed {
         session,
-        written: took,
+        length: at + taken.length,
     }
 }
 
-// The bytes of a read.
+// The bytes of a read. What they print is written at once; in parts only where it is longer than the buffer.
 fn pass_all(s: Session, bytes: &[u8]) -> Passed
     requires { ⌜ Running s ⌝ }
     ensures { λ r. ⌜ Running (r .session) ⌝ }
     ensures { λ r. ⌜ Runs s (λ x. r .session ≡ heldBench (after x (now (bytes .entry)))) ⌝ }
 {
+    let mut out = io::large_buffer();
     let mut session = s;
-    let mut written = true;
+    let mut waiting = Waiting {
+        length: 0,
+        written: true,
+    };
     let mut i = 0;
     while i < bytes.len() {
-        let passed = pass_byte(session, written, bytes[i]);
+        let room = make_room(waiting, &out);
+        let passed = pass_byte(session, &mut out, room.length, bytes[i]);
         let next = passed.session;
         session = next;
-        written = passed.written;
+        waiting = Waiting {
+            length: passed.length,
+            written: room.written,
+        };
         i += 1;
     }
+    let written = print(waiting.written, &out, waiting.length);
     Passed { session, written }
 }
 
