@@ -29,12 +29,12 @@ impl Call {
     }
 
     /// One received byte with a lent buffer of `lent` bytes, all of which count afterwards.
-    pub fn byte(byte: u8, lent: usize) -> Call {
+    pub const fn byte(byte: u8, lent: usize) -> Call {
         Call { kind: BYTE, value: byte as u32, count: lent as u32 }
     }
 
     /// The same, of whose buffer the reply alone counts.
-    pub fn byte_for_reply(byte: u8, lent: usize) -> Call {
+    pub const fn byte_for_reply(byte: u8, lent: usize) -> Call {
         Call { count: REPLY_ALONE + lent as u32, ..Call::byte(byte, lent) }
     }
 

@@ -2,7 +2,7 @@
 //!
 //! `session` runs text through the two bench programs, `list` runs calls through the two machines. An `operator` works
 //! at a `bench` to make them: it sets distances, starts, slows, stops and reads as a cellar master would. `hosted` runs
-//! lines of the page of stored vectors through the two host ends.
+//! lines of the page of stored vectors through the two host ends. `speed` times both.
 
 pub mod answers;
 pub mod bench;
@@ -20,4 +20,5 @@ pub mod random;
 pub mod replay;
 pub mod session;
 pub mod shrink;
+pub mod speed;
 pub mod vector;
