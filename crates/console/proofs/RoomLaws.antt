@@ -27,7 +27,12 @@ module _ (s : Session) (b : ℕ) (r : Taken) (x d : List ℕ) (q : Runs s (λ y.
       let y : Bench = record { machine = state (run .switch) (run .history); place = run .place } in
       let a : Answer = unless d y (taken y b) in
       let t = q (run .switch) (run .history) (run .place) (run .made) in
-      omega (arith, ap (λ (v : Taken). v .length) (t .0), ap length (t .1), length-append (a .printed) (drop (length (a .printed)) d))
+      omega (
+        arith,
+        ap (λ (v : Taken). v .length) (t .0),
+        ap length (t .1),
+        length-append (a .printed) (drop (length (a .printed)) d),
+      )
 
 -- The part of a buffer from a place on.
 pub part-length : (o : List ℕ) (at : ℕ) → length (take (length o - at) (drop at o)) ≡ length o - at

@@ -49,8 +49,8 @@ struct Passed {
     written: bool,
 }
 
-// Writes the front part of a buffer, and answers whether the output took it. Once it has failed nothing more is written,
-// so that what was written is a first part of what is printed.
+// Writes the front part of a buffer, and answers whether the output took it. Once it has failed nothing more is
+// written, so that what was written is a first part of what is printed.
 fn print(written: bool, buf: &[u8], length: usize) -> bool {
     if !written {
         return false;

@@ -79,7 +79,8 @@ each-same f g p =
     ∷ []
 
 -- The held positions, read as signed numbers, are the machine's.
-pub positions-signed : (s : ℕ) (h : List Call) → map positionOf (each (heldPosition (state s h))) ≡ each (state s h .position)
+pub positions-signed : (s : ℕ) (h : List Call)
+    → map positionOf (each (heldPosition (state s h))) ≡ each (state s h .position)
 positions-signed s h =
     each-same (λ k. positionOf (heldPosition (state s h) k)) (state s h .position)
     (λ k l. unbiased (state s h .position k) (demand-3 s h k l .within))

@@ -1,5 +1,5 @@
--- Every controller that calls make is reachable, and stays held of the machine after those calls: for callers, in loops too.
--- Assumes nothing.
+-- Every controller that calls make is reachable, and stays held of the machine after those calls: for callers, in
+-- loops too. Assumes nothing.
 use Prim.Native.Nat.{ℕ}
 use mathlib.Core.List.{List, [], _∷_}
 use mathlib.Core.Path.{_≡_, sym, ap}

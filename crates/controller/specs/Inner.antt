@@ -8,4 +8,3 @@ pub mod Start
 pub mod Orders
 pub mod Told
 pub mod Power
-pub use Start.{StartFits}

@@ -15,7 +15,7 @@ ghost use Rattle.controller.specs.Held.{heldPower};
 ghost use Rattle.controller.specs.Reach.{Reachable, Made};
 ghost use Rattle.controller.specs.Answers as answered;
 ghost use Rattle.controller.specs.Answers.{ReplyIn, Promised, TravelsOf, PositionsOf, Demand3Answers};
-ghost use Rattle.controller.specs.Power.{badOf, freshOf, lineWith};
+ghost use Rattle.controller.specs.Inner.Power.{badOf, freshOf, lineWith};
 use crate::hot::Counters;
 use crate::hot::Flags;
 use crate::hot::Hot;
@@ -149,8 +149,8 @@ fn fresh(switch: u8) -> Controller
 }
 
 // Power-on. The theorem about every list of calls, the marked table and computed lists stand here as promises, so that
-// the gate keeps them: they speak of the machine whose held values every entry answers. The same theorem over the answers
-// of these entries themselves stands beside it (`Demand3Answers`).
+// the gate keeps them: they speak of the machine whose held values every entry answers. The same theorem over the
+// answers of these entries themselves stands beside it (`Demand3Answers`).
 pub fn power_on(switch: u8) -> PowerOn
     ensures { λ r. ⌜ r ≡ heldPower switch ⌝ }
     ensures { λ _. ⌜ Demand3 ⌝ }

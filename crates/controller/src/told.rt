@@ -5,8 +5,8 @@ ghost use lib.ListN.{length};
 ghost use Rattle.block.specs.Block.{over};
 ghost use Rattle.laws.specs.Bits.{weight};
 ghost use Rattle.line.specs.Fits.{CommandFits, JudgedFits};
-ghost use Rattle.controller.specs.Inner.{StartFits};
-ghost use Rattle.controller.specs.Told.{
+ghost use Rattle.controller.specs.Inner.Start.{StartFits};
+ghost use Rattle.controller.specs.Inner.Told.{
   currentOf,
   statusOf,
   readingsOf,

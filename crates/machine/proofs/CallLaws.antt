@@ -389,7 +389,8 @@ called-accepted m b (C.Outputs v) g e = called-same m _ false g (record { next =
 -- A byte whose outcome is o.
 abbrev pub Byte : Machine → ℕ → Outcome → Type 0
 Byte m b o =
-    Called m (roleBy o) (startBy (m .pause) (roleBy o)) (stopBy m (roleBy o)) false (λ k. pos 0) (answered m b o .machine)
+    Called m (roleBy o) (startBy (m .pause) (roleBy o)) (stopBy m (roleBy o)) false (λ k. pos 0)
+    (answered m b o .machine)
 
 called-refused : (m : Machine) (b n : ℕ) (silent : Bool) (ident : Ident) → Good (m .move) → Byte m b
     (refused n silent ident)

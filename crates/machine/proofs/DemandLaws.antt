@@ -235,7 +235,8 @@ module _ (s : ℕ) (h : List Call) (t : Told s h) where
       record {
         longest = a .short;
         positive = p;
-        notPast = subst (λ (n : ℕ). gone s h ≤ n) same-whole (subst (λ (n : ℕ). n ≤ shares.whole (state s h .move)) same-gone
+        notPast = subst (λ (n : ℕ). gone s h ≤ n) same-whole
+            (subst (λ (n : ℕ). n ≤ shares.whole (state s h .move)) same-gone
             (f .within (state s h .move .master) (f .master)));
         atMost = subst (λ (d : ℕ). travel s h k ≤ d) (t .distances k) (f .within k l);
         notAhead = a .low;

@@ -1,5 +1,5 @@
--- The pause that a machine has after a call, the ticks of the dwell that are left and the waiting start, is the one that
--- the call's line or tick leaves; and so is the dwell set. Assumes nothing.
+-- The pause that a machine has after a call, the ticks of the dwell that are left and the waiting start, is the one
+-- that the call's line or tick leaves; and so is the dwell set. Assumes nothing.
 use Prim.Native.Nat.{ℕ, _+_, _-_, _*_}
 use mathlib.Core.Bool.{Bool, true, false, cond, not, _&&_, _||_}
 use mathlib.Core.List.{List}
@@ -109,7 +109,8 @@ does-dwell m C.Status = refl
 does-dwell m (C.Start k w) =
     by-bool (λ (a : Machine). a .settings .dwell ≡ m .settings .dwell) (stores m w) _ _ (λ e. refl) (λ e. refl)
 does-dwell m C.Stop =
-    by-bool (λ (a : Machine). drops a .settings .dwell ≡ m .settings .dwell) (m .move .moving) _ _ (λ e. refl) (λ e. refl)
+    by-bool (λ (a : Machine). drops a .settings .dwell ≡ m .settings .dwell) (m .move .moving) _ _
+    (λ e. refl) (λ e. refl)
 does-dwell m C.ClearWrongMaster = refl
 does-dwell m C.ResetPositions = refl
 does-dwell m (C.LowOn v) = refl
@@ -241,8 +242,8 @@ module _ (s : Machine) where
 tick-pause : (m : Machine) (w : ℕ) → after m (tick w) .pause ≡ pauseAfter m (m .pause) (m .settings .dwell) (tick w)
 tick-pause m w = when (tooLarge w)
   where
-    l : Looked (takes m w) (runsOut (takes m w)) (effective (runsOut (takes m w)) (tries (takes m w)) (m .pause .waiting))
-        (looks m w)
+    l : Looked (takes m w) (runsOut (takes m w))
+        (effective (runsOut (takes m w)) (tries (takes m w)) (m .pause .waiting)) (looks m w)
     l = looked (takes m w)
 
     s : Same (looks m w) (stops (looks m w))
@@ -259,7 +260,8 @@ tick-pause m w = when (tooLarge w)
 
     ran : runs (stops (looks m w)) .machine .pause
         ≡ record {
-          left = cond ((begins S || moves m) && not (moves a)) (250 * m .settings .dwell) (cond (begins S) 0 (m .pause .left - 1));
+          left = cond ((begins S || moves m) && not (moves a)) (250 * m .settings .dwell)
+              (cond (begins S) 0 (m .pause .left - 1));
           waiting = cond (runsOut (takes m w)) none (m .pause .waiting);
         }
     ran = λ i. record {
@@ -280,7 +282,8 @@ tick-pause m w = when (tooLarge w)
               (eqb (cond t (refusedTick m) (ticked (runs (stops (looks m w))) (failure (tries (takes m w)))) .number) 0)
               (cond (runsOut (takes m w)) (named (m .pause .waiting)) untried) untried)
               || moves m)
-              && not (moves (cond t (refusedTick m) (ticked (runs (stops (looks m w))) (failure (tries (takes m w)))) .machine)))
+              && not (moves
+              (cond t (refusedTick m) (ticked (runs (stops (looks m w))) (failure (tries (takes m w)))) .machine)))
               (250 * m .settings .dwell)
               (cond
               (begins

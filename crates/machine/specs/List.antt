@@ -75,8 +75,8 @@ abbrev pub lineOf : Machine → Call → Role
 lineOf m (byte b buffer) = roleBy (outcome m b buffer)
 lineOf m (tick w) = other
 
--- ---- Starts and the dwell, p being the pause before the call: the ticks of the dwell that are left, and the start that
--- waits for its end
+-- ---- Starts and the dwell, p being the pause before the call: the ticks of the dwell that are left, and the start
+-- that waits for its end
 
 abbrev pub begins : Tried → Bool
 begins untried = false

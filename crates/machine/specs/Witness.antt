@@ -1,6 +1,7 @@
 -- Lists of calls to which demand 3 has something to say. One: a start takes effect, its move is stopped by order 9 at a
--- pulse where the shares are no whole numbers, and another runs to its end. Distances 5, 2 and minus 3, master 0, switch 0. Another, with a dwell of
--- 1 ms: a start stored in the dwell begins with the master that it names, and one fails as its dwell runs out.
+-- pulse where the shares are no whole numbers, and another runs to its end. Distances 5, 2 and minus 3, master 0, switch
+-- 0. Another, with a dwell of 1 ms: a start stored in the dwell begins with the master that it names, and one fails as
+-- its dwell runs out. And a start turned away by each of its numbers.
 use Prim.Native.Nat.{ℕ}
 use Prim.Native.String.{String}
 use mathlib.Core.Bool.{Bool, true, false}
@@ -63,8 +64,8 @@ unfoldable pub waiting : List Call
 unfolding dwelling
 waiting = line "Q089" (line "Q08A" dwelling)
 
--- The distances that the stored start is to find: axis 1 is as long as axis 2 in the one list, shorter in the other. The
--- dwell runs out in its 250th tick.
+-- The distances that the stored start is to find: axis 1 is as long as axis 2 in the one list, shorter in the other.
+-- The dwell runs out in its 250th tick.
 unfoldable pub passing : List Call
 unfolding waiting
 passing = ticks 249 0 (line "P0100001" waiting)
@@ -153,7 +154,8 @@ pub record Stored : Type 0 where
   pub unstores : paused 0 (line "Q09" waiting) .waiting ≡ none
   pub plain : phaseOf (line "Q082" waiting) ≡ record { started = true; goesOn = true; stopBegun = false; ends = false }
   pub replaced : paused 0 (line "Q082" waiting) .waiting ≡ none
-  pub undwelt : phaseOf (line "Q088" prepared) ≡ record { started = true; goesOn = true; stopBegun = false; ends = false }
+  pub undwelt : phaseOf (line "Q088" prepared)
+      ≡ record { started = true; goesOn = true; stopBegun = false; ends = false }
   -- with an axis longer than that master it fails there with 14 and is dropped, and no move begins
   pub fails : toldBy failing ≡ 14
   pub rests : phaseOf (tick 0 ∷ failing) ≡ record { started = true; goesOn = false; stopBegun = false; ends = false }

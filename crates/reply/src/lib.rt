@@ -5,7 +5,16 @@ ghost use mathlib.Core.Bool.{false};
 ghost use mathlib.Core.Path.{_≡_};
 ghost use lib.ListN.{getD};
 ghost use Rattle.block.specs.Block.{laid, laidLength};
-ghost use Rattle.reply.specs.Reply.{coded, origin, positionOf, toldBy, answerOf, replyOf, refusalIdent, refusalOf};
+ghost use Rattle.reply.specs.Reply.{
+  coded,
+  origin,
+  positionOf,
+  toldBy,
+  answerOf,
+  replyOf,
+  refusalIdent,
+  refusalOf,
+};
 use block::Block;
 use digits::Ident;
 use line::Command;

@@ -21,7 +21,8 @@ after-next : (x : Bench) (bs : List ℕ) (i : ℕ) → i < length bs
 after-next x bs i h = rw (add-one i, take-suc bs i 0 h) (after-snoc (take i bs) x (getD bs i 0))
 
 taken-on : (x : Bench) (b : ℕ) → Lives x → Lives (taken x b .bench)
-taken-on x b l = subst (λ (y : Bench). Lives (taken y b .bench)) (l .is) (taken-lives (l .switch) (l .history) b (l .place))
+taken-on x b l =
+    subst (λ (y : Bench). Lives (taken y b .bench)) (l .is) (taken-lives (l .switch) (l .history) b (l .place))
 
 after-lives : (bs : List ℕ) (x : Bench) → Lives x → Lives (after x bs)
 unfolding after

@@ -167,7 +167,8 @@ module _ (s w : ℕ) (h : List Call) where
 
   -- One tick more.
   pub next-ran : (n : ℕ) (ran next : Ran) → ran ≡ ranOf n w (state s h)
-      → next ≡ tickedOf (ran .sums) (ran .number) (tickStep (state s (past n w h)) w) → next ≡ ranOf (n + 1) w (state s h)
+      → next ≡ tickedOf (ran .sums) (ran .number) (tickStep (state s (past n w h)) w)
+      → next ≡ ranOf (n + 1) w (state s h)
   unfolding afterTicks sumOf numberIn
   next-ran n ran next p e =
       rw add-one (e ∙ λ i. tickedOf (p i .sums) (p i .number) (tickStep (past-state n i) w))

@@ -26,7 +26,8 @@ add-t8 c =
     let q = c .before .before .before .before .before .before .before in
     let o = now (q .args .out) in
     let d = take (length o - q .args .at) (drop (q .args .at) o) in
-    let k = room-length (q .args .s) (q .args .b) (t .result) (t .last .1 .0) d (t .ensures .0) (q .pre .0) (t .kept .1 .0) in
+    let k = room-length (q .args .s) (q .args .b) (t .result) (t .last .1 .0) d (t .ensures .0) (q .pre .0)
+    (t .kept .1 .0) in
     record { fits = omega (arith, k, part-length o (q .args .at), q .pre .1) }
 
 same-length : tie.Need-same-length
@@ -38,12 +39,13 @@ returns c =
     let q = c .before .before .before .before .before .before .before in
     let o = now (q .args .out) in
     let d = take (length o - q .args .at) (drop (q .args .at) o) in
-    let k = room-length (q .args .s) (q .args .b) (t .result) (t .last .1 .0) d (t .ensures .0) (q .pre .0) (t .kept .1 .0) in (
+    let l = part-length o (q .args .at) in
+    let k = room-length (q .args .s) (q .args .b) (t .result) (t .last .1 .0) d (t .ensures .0) (q .pre .0)
+    (t .kept .1 .0) in (
       t .ensures .1,
-      (
-        omega (arith, k, part-length o (q .args .at), q .pre .1),
-        room-bench (q .args .s) (q .args .b) (t .result) (t .last .1 .0) d (t .ensures .0) (omega (arith, part-length o (q .args .at), q .pre .1)),
-      ),
+      omega (arith, k, l, q .pre .1),
+      room-bench (q .args .s) (q .args .b) (t .result) (t .last .1 .0) d (t .ensures .0)
+          (omega (arith, l, q .pre .1)),
     )
 
 pub pass-byte-spec : {M : Type 1} → statement M

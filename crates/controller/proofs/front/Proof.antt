@@ -10,7 +10,8 @@ front-requires c κs = search needs
 
 returns : tie.Need-returns
 returns c =
-    (c .front .ensures, reply-in (now (c .before .before .args .buf)) (c .before .before .args .n) _ (c .front .ensures))
+    let q = c .before .before .args in
+    (c .front .ensures, reply-in (now (q .buf)) (q .n) _ (c .front .ensures))
 
 pub front-spec : {M : Type 1} → statement M
 front-spec = tie.close (tie.spec front-requires returns)

@@ -40,7 +40,8 @@ returns c =
     let a = n .before .before .before .before in
     let l = a .before .before .before .before .args in
     λ s h e. byte-whole (state s h) (l .b) (l .buf .now) (l .was .digest) (a .byte .result) (a .byte .last .1 .0) _ _
-    (a .byte .ensures .0 s h e) (a .byte .ensures .1 .0 s h e) (n .mix .ensures) (l .whole) (c .before .before .if1 .taken)
+    (a .byte .ensures .0 s h e) (a .byte .ensures .1 .0 s h e) (n .mix .ensures) (l .whole)
+    (c .before .before .if1 .taken)
     (c .bytes .ensures)
 
 front-requires : tie.Need-front-requires

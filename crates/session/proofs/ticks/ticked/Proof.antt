@@ -29,8 +29,10 @@ returns c =
     λ s h e. λ i. record {
       controller = a .ensures .0 s h e i .controller;
       sums =
-          (c .before .before .added .ensures ∙ ap (λ x. addedOf (l .args .ran .sums) (x .pulses)) (a .ensures .0 s h e)) i;
-      number = (c .before .later .ensures ∙ ap (λ x. laterOf (l .args .ran .number) (x .number)) (a .ensures .0 s h e)) i;
+          (c .before .before .added .ensures
+          ∙ ap (λ x. addedOf (l .args .ran .sums) (x .pulses)) (a .ensures .0 s h e)) i;
+      number =
+          (c .before .later .ensures ∙ ap (λ x. laterOf (l .args .ran .number) (x .number)) (a .ensures .0 s h e)) i;
     }
 
 pub ticked-spec : {M : Type 1} → statement M
