@@ -43,9 +43,11 @@ returns c =
     let k = room-length (q .args .s) (q .args .b) (t .result) (t .last .1 .0) d (t .ensures .0) (q .pre .0)
     (t .kept .1 .0) in (
       t .ensures .1,
-      omega (arith, k, l, q .pre .1),
-      room-bench (q .args .s) (q .args .b) (t .result) (t .last .1 .0) d (t .ensures .0)
-          (omega (arith, l, q .pre .1)),
+      (
+        omega (arith, k, l, q .pre .1),
+        room-bench (q .args .s) (q .args .b) (t .result) (t .last .1 .0) d (t .ensures .0)
+            (omega (arith, l, q .pre .1)),
+      ),
     )
 
 pub pass-byte-spec : {M : Type 1} → statement M
