@@ -3,6 +3,8 @@
 
 In one cell of a table (or one line of text) a path in backticks is followed by names in backticks. The file must stand
 under crates/ and each name up to the next path must occur in it as a whole word; of A::b both A and b must.
+Each public function of a library has a row in the table of two wrong programs, with a must-fail edit or the words "No
+proof rules these out".
 Exit 1, naming what is missing.
 """
 import re
@@ -30,10 +32,34 @@ def citations(page):
                     yield number, cited, quoted
 
 
+def entries(root):
+    """Each public function of a library, as the table names it: its file under crates/, and its name."""
+    for lib in sorted((root / "crates").glob("*/src/lib.rt")):
+        kind = None
+        for line in lib.read_text(encoding="utf-8").splitlines():
+            block = re.match(r"impl (\w+)", line)
+            kind = block.group(1) if block else None if line == "}" else kind
+            entry = re.match(r'\s*pub (?:extern "C" )?fn (\w+)', line)
+            if entry:
+                yield str(lib.relative_to(root / "crates")), f"{kind}::{entry.group(1)}" if kind else entry.group(1)
+
+
+def uncovered(root, page):
+    """What the table of two wrong programs lacks."""
+    rows = [row for row in page.split("## Two wrong programs for each entry")[1].splitlines() if row.startswith("| `")]
+    for cited, name in entries(root):
+        row = next((row for row in rows if f"`{cited}`" in row and f"`{name}`" in row), None)
+        if row is None:
+            yield f"docs/CLAIMS.md: no row of two wrong programs for `{name}` of crates/{cited}"
+        elif "/must-fail/" not in row and "No proof rules these out" not in row:
+            yield f"docs/CLAIMS.md: no must-fail edit for `{name}` of crates/{cited}"
+
+
 def main():
     root = Path(sys.argv[1] if len(sys.argv) > 1 else ".")
-    texts, missing, count = {}, [], 0
-    for number, cited, name in citations((root / "docs/CLAIMS.md").read_text(encoding="utf-8")):
+    page = (root / "docs/CLAIMS.md").read_text(encoding="utf-8")
+    texts, missing, count = {}, list(uncovered(root, page)), 0
+    for number, cited, name in citations(page):
         count += 1
         path = root / "crates" / cited
         if cited not in texts:
