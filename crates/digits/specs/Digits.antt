@@ -8,6 +8,19 @@ use Rattle.digits.specs.declared.Digit.the-variants.{Other, Capital, Sma
 use Rattle.digits.specs.declared.Number.{Number}
 use Rattle.digits.specs.declared.Number.the-variants.{NotDigits, Value}
 
+-- What four, five and six digits count to, and the top bit of five.
+abbrev pub fourDigits : ℕ
+fourDigits = 65536
+
+abbrev pub fiveDigits : ℕ
+fiveDigits = 1048576
+
+abbrev pub sixDigits : ℕ
+sixDigits = 16777216
+
+abbrev pub topBit : ℕ
+topBit = 524288
+
 -- A character as a digit: 0-9 (48 to 57), A-F (65 to 70), a-f (97 to 102).
 abbrev pub digitOf : ℕ → Digit
 digitOf c =
@@ -26,7 +39,7 @@ capitalOf v = cond (ltb (v % 16) 10) (48 + v % 16) (55 + v % 16)
 -- The six capital digits of the low 24 bits of n, the highest first.
 unfoldable pub sixOf : ℕ → List ℕ
 sixOf n =
-    capitalOf (n / 1048576 % 16) ∷ capitalOf (n / 65536 % 16) ∷ capitalOf (n / 4096 % 16)
+    capitalOf (n / fiveDigits % 16) ∷ capitalOf (n / fourDigits % 16) ∷ capitalOf (n / 4096 % 16)
     ∷ capitalOf (n / 256 % 16) ∷ capitalOf (n / 16 % 16) ∷ capitalOf (n % 16) ∷ []
 
 -- A number n, with a small letter in it or not, and one digit more: n times 16 and the digit's value.

@@ -1,7 +1,16 @@
 // Hexadecimal digits: one character to and from its value, six to and from a 24-bit number.
 // Every public function is total: it has no premise and states its result for every input. Assumes nothing.
 ghost use mathlib.Core.Path.{_≡_};
-ghost use Rattle.digits.specs.Digits.{digitOf, capitalOf, sixOf, joinOf, numberOf, Under};
+ghost use Rattle.digits.specs.Digits.{fiveDigits, digitOf, capitalOf, sixOf, joinOf, numberOf, Under};
+
+// What four, five and six digits count to.
+pub const FOUR_DIGITS: u32 = 65536;
+
+pub const FIVE_DIGITS: u32 = 1048576;
+
+pub const SIX_DIGITS: u32 = 16777216;
+// The top bit of five digits: a distance's and a travel's minus, and what a held position has added.
+pub const TOP_BIT: u32 = 524288;
 
 // What a character is as a digit. The case is told beside the value: data digits ignore it, and an
 // identification is returned as the very character.
@@ -69,8 +78,8 @@ pub fn six_capitals(n: u32) -> [u8; 6]
     ensures { λ r. ⌜ r ≡ sixOf n ⌝ }
 {
     [
-        capital((n / 1048576 % 16) as u8),
-        capital((n / 65536 % 16) as u8),
+        capital((n / FIVE_DIGITS % 16) as u8),
+        capital((n / FOUR_DIGITS % 16) as u8),
         capital((n / 4096 % 16) as u8),
         capital((n / 256 % 16) as u8),
         capital((n / 16 % 16) as u8),
@@ -80,7 +89,7 @@ pub fn six_capitals(n: u32) -> [u8; 6]
 
 // The number read so far with one digit more.
 fn join(prefix: Number, c: u8) -> Number
-    requires { ⌜ Under 1048576 prefix ⌝ }
+    requires { ⌜ Under fiveDigits prefix ⌝ }
     ensures { λ r. ⌜ r ≡ joinOf prefix c ⌝ }
 {
     match prefix {

@@ -1,5 +1,6 @@
 pub mod Laws
-pub mod Fits
-pub mod Examples
-pub mod Verdict
+pub mod Ranges
 pub mod Cases
+pub mod Fits
+pub mod Verdict
+pub mod Examples

@@ -1,3 +1,5 @@
+pub mod Ranges
+pub mod Codes
 pub mod Line
 pub mod Fits
 pub mod Verdict

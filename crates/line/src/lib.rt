@@ -5,7 +5,7 @@ ghost use Prim.Native.Nat.{_-_, min};
 ghost use mathlib.Core.Bool.{not};
 ghost use mathlib.Core.Path.{_≡_};
 ghost use lib.ListN.{take};
-ghost use Rattle.digits.specs.Digits.{digitOf, numberOf, Under};
+ghost use Rattle.digits.specs.Digits.{sixDigits, digitOf, numberOf, Under};
 ghost use Rattle.line.specs.Line.{
   isLetter,
   isSwitch,
@@ -17,57 +17,19 @@ ghost use Rattle.line.specs.Line.{
   identOf,
   digitChars,
   turnedAway,
-  judgeForm,
+  judgeRow,
   judgeValue,
   judgeOf,
 };
 ghost use Rattle.line.specs.Verdict.{verdictOf, lineVerdict};
-use crate::form::Form;
+use crate::command::Command;
+use crate::row::Row;
 use digits::Digit;
 use digits::Ident;
 use digits::Number;
 
-mod form;
-
-// What a line asks for, each form of chapter 7.
-pub enum Command {
-    // P 0-4: the next move's distance and direction of an axis.
-    Distance { axis: u8, minus: bool, length: u32 },
-    // P 8, in units of 0.25 Hz.
-    Speed(u32),
-    // P 9, in units of 1.25 kHz/s.
-    Slope(u32),
-    // P A, in ms.
-    Dwell(u32),
-    // P B: bit 0 stops the axes, bit 1 clears the outputs.
-    Watch(u8),
-    // P C: a bit for each pulse line.
-    Polarity(u32),
-    // Q 0-4: read an axis's travel.
-    Travel(u8),
-    // Q 6.
-    Status,
-    // Q 8: at once, or after the dwell.
-    Start { master: u8, waits: bool },
-    // Q 9.
-    Stop,
-    // Q A: clear status bit 2.
-    ClearWrongMaster,
-    // Q B.
-    ResetPositions,
-    // Q D: the low-ON setting of the inputs.
-    LowOn(u32),
-    // Q E: the high-ON setting of the inputs.
-    HighOn(u32),
-    // q 0-4: read an axis's position.
-    Position(u8),
-    // q 8.
-    Everything,
-    // W with no digits: read the inputs.
-    Inputs,
-    // W with six: set the general outputs.
-    Outputs(u32),
-}
+pub mod command;
+mod row;
 
 // A line's judgement. The six digits as a number, absent ones 0, are kept for the echo of an order.
 pub enum Judged {
@@ -155,28 +117,29 @@ fn digit_count(count: u8) -> u8
 }
 
 // Checks 8 to 10, and the command of the row.
-fn judge_form(form: Form, count: u8, number: u32) -> Judged
-    ensures { λ r. ⌜ r ≡ judgeForm form count number ⌝ }
+fn judge_row(row: Row, count: u8, number: u32) -> Judged
+    ensures { λ r. ⌜ r ≡ judgeRow row count number ⌝ }
 {
-    if !form::is_listed(form) {
-        return Judged::Refused(8);
-    }
-    if !form::has_count(form, count) {
-        return Judged::Refused(9);
-    }
-    if !form::in_range(form, number) {
-        return Judged::Refused(10);
-    }
-    let command = form::command(form, count, number);
-    Judged::Accepted {
-        command,
-        digits: number,
+    match row {
+        Row::Unlisted => Judged::Refused(8),
+        Row::Listed { least, command } => {
+            if !command::within(count as u32, least as u32, 6) {
+                return Judged::Refused(9);
+            }
+            if !command::fits(command) {
+                return Judged::Refused(10);
+            }
+            Judged::Accepted {
+                command,
+                digits: number,
+            }
+        }
     }
 }
 
 // Check 7 of the digits, then 8 to 10.
 fn judge_number(letter: u8, count: u8, number: Number) -> Judged
-    requires { ⌜ Under 16777216 number ⌝ }
+    requires { ⌜ Under sixDigits number ⌝ }
     ensures { λ r. ⌜ r ≡ turnedAway 7 (not (isNumber number)) (judgeValue letter count (valueOf number)) ⌝ }
 {
     match number {
@@ -185,8 +148,8 @@ fn judge_number(letter: u8, count: u8, number: Number) -> Judged
             number: n,
             small: _,
         } => {
-            let form = form::form_of(letter, count, (n / form::FIVE_DIGITS) as u8);
-            judge_form(form, count, n)
+            let row = row::row_of(letter, count, n);
+            judge_row(row, count, n)
         }
     }
 }

@@ -1,10 +1,9 @@
--- Check 7 of the digits by the two cases of the number; 24 bits make the code fit a byte. Assumes nothing.
+-- Check 7 of the digits by the two cases of the number. Assumes nothing.
 use borrow.Author.Needs.{needs}
-use native.Mathlib.Omega.{arith}
 use mathlib.Core.Path.{subst, ap, _∙_}
-use Rattle.digits.specs.Digits.{Under}
-use Rattle.line.specs.declared.form.Form.{Form}
-use Rattle.line.specs.Line.{judgeForm}
+use Rattle.digits.specs.Digits.{sixDigits, Under}
+use Rattle.line.specs.declared.row.Row.{Row}
+use Rattle.line.specs.Line.{judgeRow}
 use Rattle.line.proofs.judge_number.Statement.{statement}
 use Rattle.line.proofs.judge_number.Tie as tie
 
@@ -14,14 +13,11 @@ enum-told c = search needs
 enum-known-number : tie.Need-enum-known-number
 enum-known-number c = search needs
 
-cast-form-of : tie.Need-cast-form-of
-cast-form-of c = omega (arith, subst (Under 16777216) (c .before .number .given .1) (c .before .before .before .pre))
+row-of-requires : tie.Need-row-of-requires
+row-of-requires c κs = subst (Under sixDigits) (c .before .number .given .1) (c .before .before .before .pre)
 
-form-of-requires : tie.Need-form-of-requires
-form-of-requires c κs = search needs
-
-judge-form-requires : tie.Need-judge-form-requires
-judge-form-requires c κs = search needs
+judge-row-requires : tie.Need-judge-row-requires
+judge-row-requires c κs = search needs
 
 returns : tie.Need-returns
 returns c = search needs
@@ -31,7 +27,7 @@ returns-2 c =
     let n = c .before .before .before .number .given in
     let a = c .before .before .before .before .before .args in
     rw (n .1)
-    (c .judge-form .ensures ∙ ap (λ (f : Form). judgeForm f (a .count) (n .0 .0)) (c .before .form-of .ensures))
+    (c .judge-row .ensures ∙ ap (λ (x : Row). judgeRow x (a .count) (n .0 .0)) (c .before .row-of .ensures))
 
 pub judge-number-spec : {M : Type 1} → statement M
 judge-number-spec =
@@ -39,8 +35,7 @@ judge-number-spec =
     (tie.spec
     enum-told
     enum-known-number
-    cast-form-of
-    form-of-requires
-    judge-form-requires
+    row-of-requires
+    judge-row-requires
     returns
     returns-2)

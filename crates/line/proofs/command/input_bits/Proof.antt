@@ -1,7 +1,7 @@
 -- The test of the input bits is `inputBits`. Assumes nothing.
 use borrow.Author.Tests.{eq-eqb, ne-eqb}
-use Rattle.line.proofs.form.input_bits.Statement.{statement}
-use Rattle.line.proofs.form.input_bits.Tie as tie
+use Rattle.line.proofs.command.input_bits.Statement.{statement}
+use Rattle.line.proofs.command.input_bits.Tie as tie
 
 returns : tie.Need-returns
 returns c = rw (eq-eqb _ _ (c .if1 .taken))

@@ -1,7 +1,7 @@
 -- The range test is `isWithin`. Assumes nothing.
 use borrow.Author.Tests.{le-leb, lt-leb}
-use Rattle.line.proofs.form.within.Statement.{statement}
-use Rattle.line.proofs.form.within.Tie as tie
+use Rattle.line.proofs.command.within.Statement.{statement}
+use Rattle.line.proofs.command.within.Tie as tie
 
 returns : tie.Need-returns
 returns c = rw (lt-leb _ _ (c .if1 .taken))

@@ -1,0 +1,78 @@
+-- What a command in range has: the facts that `fits` tells, case by case. Assumes nothing.
+use Prim.Native.Nat.{ℕ, _/_, _%_, _≤_, _<_}
+use native.Mathlib.Omega.{arith}
+use mathlib.Core.Bool.{Bool, true, false, _&&_, false≢true}
+use mathlib.Core.Path.{_≡_, refl}
+use lib.Dec.{ltb, leb, eqb}
+use borrow.Author.Tests.{ltb-true, leb-true, le-leb, eqb-true}
+use Rattle.digits.specs.Digits.{sixDigits, topBit}
+use Rattle.laws.proofs.Pick.{by-eq}
+use Rattle.line.specs.declared.command.Command.the-variants as C
+use Rattle.line.specs.Ranges.{isWithin, isAxis, inputBits, fits}
+
+-- ---- tests taken apart
+
+pub both : (a b : Bool) → (a && b) ≡ true → (a ≡ true) × (b ≡ true)
+both true b e = (refl, e)
+both false b e = absurd (false≢true e)
+
+pub within : (n low high : ℕ) → isWithin n low high ≡ true → (low ≤ n) × (n ≤ high)
+within n low high e =
+    let t = both (leb low n) (leb n high) e in
+    (leb-true low n (t .0), leb-true n high (t .1))
+
+pub is-within : (n low high : ℕ) → low ≤ n → n ≤ high → isWithin n low high ≡ true
+is-within n low high h k = rw (le-leb low n h, le-leb n high k)
+
+-- An input setting has 14 bits.
+pub bits-low : (v : ℕ) → inputBits v ≡ true → v < 16384
+bits-low v e = omega (arith, eqb-true (v / 16384) 0 (both (eqb (v / 16384) 0) (eqb (v / 1024 % 4) 0) e .0))
+
+-- ---- commands
+
+-- The axis of a distance, a start or a reading.
+pub axis : (k : ℕ) → isAxis k ≡ true → k < 5
+axis k e = ltb-true k 5 e
+
+pub distance : (k : ℕ) (minus : Bool) (d : ℕ) → fits (C.Distance k minus d) ≡ true → (k < 5) × (d < topBit)
+distance k minus d e =
+    let t = both (isAxis k) (ltb d topBit) e in
+    (axis k (t .0), ltb-true d topBit (t .1))
+
+pub outputs : (v : ℕ) → fits (C.Outputs v) ≡ true → v < sixDigits
+outputs v e = ltb-true v sixDigits e
+
+-- What holds or not of a number that is n, or is another.
+cases : {P : Type 0} (k n : ℕ) → (k ≡ n → P) → ((k ≡ n → ⊥) → P) → P
+cases {P} k n p q = by-eq (λ (_ : Bool). P) k n true false p q
+
+-- A fact about an order that names nothing else, by its code.
+pub by-order : (P : ℕ → Type 0) → P 9 → P 10 → P 11 → (k : ℕ) → fits (C.Order k) ≡ true → P k
+by-order P p9 p10 p11 k e =
+    let t = within k 9 11 e in
+    cases k 9 (λ q. rw q p9)
+    λ n. cases k 10 (λ q. rw q p10)
+    λ m. let q : k ≡ 11 = omega (arith, t .0, t .1, n, m) in rw q p11
+
+-- A fact about a setting in range, by its code.
+pub by-setting : (P : ℕ → ℕ → Type 0) (code v : ℕ)
+    → (1 ≤ v → v ≤ 1000000 → P 8 v)
+    → (1 ≤ v → v ≤ 4095 → P 9 v)
+    → (v ≤ 16383 → P 10 v)
+    → (v ≤ 3 → P 11 v)
+    → (v ≤ 4095 → P 12 v)
+    → (inputBits v ≡ true → P 13 v)
+    → (inputBits v ≡ true → P 14 v)
+    → fits (C.Set code v) ≡ true → P code v
+by-setting P code v p8 p9 p10 p11 p12 p13 p14 =
+    by-eq If code 8 _ _ (λ q e. let t = within v 1 1000000 e in rw q (p8 (t .0) (t .1)))
+    λ _. by-eq If code 9 _ _ (λ q e. let t = within v 1 4095 e in rw q (p9 (t .0) (t .1)))
+    λ _. by-eq If code 10 _ _ (λ q e. rw q (p10 (leb-true v 16383 e)))
+    λ _. by-eq If code 11 _ _ (λ q e. rw q (p11 (leb-true v 3 e)))
+    λ _. by-eq If code 12 _ _ (λ q e. rw q (p12 (leb-true v 4095 e)))
+    λ _. by-eq If code 13 _ _ (λ q e. rw q (p13 e))
+    λ _. by-eq If code 14 _ _ (λ q e. rw q (p14 e))
+    λ _ e. absurd (false≢true e)
+  where
+    If : Bool → Type 0
+    If t = t ≡ true → P code v
