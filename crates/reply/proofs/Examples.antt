@@ -9,7 +9,8 @@ use lib.IntN.{pos, negsuc}
 use Rattle.digits.specs.Digits.{sixOf}
 use Rattle.digits.specs.declared.Ident.the-variants.{Absent, Given}
 use Rattle.block.specs.Block.{blockOf, rowOf}
-use Rattle.line.specs.declared.Command.the-variants as C
+use Rattle.line.specs.declared.command.Command.the-variants as C
+use Rattle.line.specs.declared.command.Reading.the-variants as R
 use Rattle.reply.specs.declared.Readings.{Readings}
 use Rattle.reply.specs.Reply.{twenty, positionOf, toldBy, replyOf, refusalOf}
 
@@ -36,14 +37,15 @@ pub record Examples : Type 0 where
   pub most : positionOf (record { 0 = 1048575 }) ≡ pos 524287
   pub minus-one : twenty (positionOf (record { 0 = 524287 })) ≡ 0xFFFFF
   pub minus-ten : twenty (positionOf (record { 0 = 524278 })) ≡ 0xFFFF6
-  pub travel : replyOf (toldBy readings) (C.Travel 2) 0x200000 Absent ≡ ended "S0280003"
-  pub position : replyOf (toldBy readings) (C.Position 1) 0x100000 (Given 49) ≡ ended "s01FFFF61"
-  pub no-travel : replyOf (toldBy readings) (C.Travel 5) 0x500000 Absent ≡ ended "S0500000"
-  pub no-position : replyOf (toldBy readings) (C.Position 5) 0x500000 Absent ≡ ended "s0500000"
-  pub echo : replyOf (toldBy readings) C.ResetPositions 0xB1FA00 Absent ≡ ended "S0B1FA00"
-  pub setting : replyOf (toldBy readings) (C.Speed 1) 0x800001 Absent ≡ ended "U0000000"
-  pub inputs : replyOf (toldBy readings) C.Inputs 0 Absent ≡ ended "R0001000"
-  pub everything : replyOf (toldBy readings) C.Everything 0x800000 (Given 57) ≡
+  pub travel : replyOf (toldBy readings) (C.Read (R.Travel 2)) 0x200000 Absent ≡ ended "S0280003"
+  pub position : replyOf (toldBy readings) (C.Read (R.Position 1)) 0x100000 (Given 49) ≡ ended "s01FFFF61"
+  pub no-travel : replyOf (toldBy readings) (C.Read (R.Travel 5)) 0x500000 Absent ≡ ended "S0500000"
+  pub no-position : replyOf (toldBy readings) (C.Read (R.Position 5)) 0x500000 Absent ≡ ended "s0500000"
+  pub echo : replyOf (toldBy readings) (C.Order 11) 0xB1FA00 Absent ≡ ended "S0B1FA00"
+  pub input-setting : replyOf (toldBy readings) (C.Set 13 1) 0xD00001 Absent ≡ ended "S0D00001"
+  pub setting : replyOf (toldBy readings) (C.Set 8 1) 0x800001 Absent ≡ ended "U0000000"
+  pub inputs : replyOf (toldBy readings) (C.Read R.Inputs) 0 Absent ≡ ended "R0001000"
+  pub everything : replyOf (toldBy readings) (C.Read R.Everything) 0x800000 (Given 57) ≡
       ended "S00000059" ++ ended "S01000019" ++ ended "S02800039" ++ ended "S03000009" ++ ended "S04000009"
       ++ ended "S06000039" ++ ended "s00FFFFF9" ++ ended "s01FFFF69" ++ ended "s02000009" ++ ended "s037FFFF9"
       ++ ended "s04800009" ++ ended "R00010009"
@@ -63,6 +65,7 @@ examples =
       no-travel = refl;
       no-position = refl;
       echo = refl;
+      input-setting = refl;
       setting = refl;
       inputs = refl;
       everything = refl;

@@ -1,6 +1,7 @@
 -- Laws of replies: what is written is the reply, its length, that a buffer of 120 bytes holds it, and that it depends
 -- on no more than what the command reads. Assumes nothing.
 use Prim.Native.Nat.{ℕ, _≤_, _<_}
+use mathlib.Core.Bool.{true}
 use mathlib.Core.List.{List, [], _∷_}
 use mathlib.Core.Path.{_≡_, refl, ap, _∙_}
 use native.Mathlib.Omega.{arith}
@@ -10,22 +11,30 @@ use Rattle.digits.specs.declared.Ident.{Ident}
 use Rattle.block.specs.Block.{rowOf, over, laid, laidLength}
 use Rattle.block.proofs.Blocks.{block-least, block-most, row-least, row-most}
 use Rattle.block.proofs.Buffers.{laid-over, laid-over-length}
-use Rattle.line.specs.declared.Command.{Command}
-use Rattle.line.specs.declared.Command.the-variants as C
+use Rattle.line.specs.declared.command.Command.{Command}
+use Rattle.line.specs.declared.command.Command.the-variants as C
+use Rattle.line.specs.declared.command.Reading.{Reading}
+use Rattle.line.specs.declared.command.Reading.the-variants as R
+use Rattle.line.specs.Ranges.{readingFits, fits}
+use Rattle.line.proofs.Ranges.{axis}
 use Rattle.reply.specs.declared.Answer.{Answer}
 use Rattle.reply.specs.declared.Answer.the-variants.{One, All}
 use Rattle.reply.specs.Reply.{
   Told,
   coded,
+  letterU,
+  letterS,
+  letterSmallS,
+  letterR,
   blockFor,
   letters,
   numbers,
+  readingOf,
   answerOf,
   bytesOf,
   replyOf,
   refusalIdent,
   refusalOf,
-  axesFit,
 }
 
 -- ---- what is written
@@ -47,9 +56,9 @@ twelve-blocks t c digits ident p e =
     ap (λ (x : List ℕ). rowOf 12 letters x (t .switch) ident) p ∙ ap (λ (a : Answer). bytesOf t a ident) e
 
 pub refusal-block : (switch n : ℕ) (ident shown : Ident) → shown ≡ refusalIdent n ident
-    → blockFor switch 85 n shown ≡ refusalOf switch n ident
+    → blockFor switch letterU n shown ≡ refusalOf switch n ident
 unfolding refusalOf
-refusal-block switch n ident shown e = ap (λ (x : Ident). blockFor switch 85 n x) e
+refusal-block switch n ident shown e = ap (λ (x : Ident). blockFor switch letterU n x) e
 
 -- ---- lengths
 
@@ -85,12 +94,12 @@ module _ (switch n : ℕ) (ident : Ident) where
   pub refusal-least : 9 ≤ length (refusalOf switch n ident)
   unfolding refusalOf
   refusal-least =
-      block-least (record { letter = 85; switch = switch; number = n; ident = refusalIdent n ident })
+      block-least (record { letter = letterU; switch = switch; number = n; ident = refusalIdent n ident })
 
   pub refusal-most : length (refusalOf switch n ident) ≤ 120
   unfolding refusalOf
   refusal-most =
-      omega (arith, block-most (record { letter = 85; switch = switch; number = n; ident = refusalIdent n ident }))
+      omega (arith, block-most (record { letter = letterU; switch = switch; number = n; ident = refusalIdent n ident }))
 
   pub refusal-over : (d : List ℕ) → 120 ≤ length d
       → laid 0 (refusalOf switch n ident) d ≡ over (refusalOf switch n ident) d
@@ -106,25 +115,20 @@ module _ (switch n : ℕ) (ident : Ident) where
 module _ (t u : Told) (switch : t .switch ≡ u .switch) (travels : (k : ℕ) → k < 5 → t .travel k ≡ u .travel k)
     (positions : (k : ℕ) → k < 5 → t .position k ≡ u .position k)
     (status : t .status ≡ u .status) (inputs : t .inputs ≡ u .inputs) where
-  same-answer : (c : Command) (digits : ℕ) → axesFit c → answerOf t c digits ≡ answerOf u c digits
-  same-answer (C.Distance k minus d) digits fits = refl
-  same-answer (C.Speed v) digits fits = refl
-  same-answer (C.Slope v) digits fits = refl
-  same-answer (C.Dwell v) digits fits = refl
-  same-answer (C.Watch v) digits fits = refl
-  same-answer (C.Polarity v) digits fits = refl
-  same-answer (C.Travel k) digits fits = ap (λ (x : ℕ). One 83 (coded k x)) (travels k fits)
-  same-answer C.Status digits fits = ap (λ (x : ℕ). One 83 (coded 6 x)) status
-  same-answer (C.Start k waits) digits fits = refl
-  same-answer C.Stop digits fits = refl
-  same-answer C.ClearWrongMaster digits fits = refl
-  same-answer C.ResetPositions digits fits = refl
-  same-answer (C.LowOn v) digits fits = refl
-  same-answer (C.HighOn v) digits fits = refl
-  same-answer (C.Position k) digits fits = ap (λ (x : ℕ). One 115 (coded k x)) (positions k fits)
-  same-answer C.Everything digits fits = refl
-  same-answer C.Inputs digits fits = ap (One 82) inputs
-  same-answer (C.Outputs v) digits fits = ap (One 82) inputs
+  same-reading : (r : Reading) → readingFits r ≡ true → readingOf t r ≡ readingOf u r
+  same-reading (R.Travel k) e = ap (λ (x : ℕ). One letterS (coded k x)) (travels k (axis k e))
+  same-reading (R.Position k) e = ap (λ (x : ℕ). One letterSmallS (coded k x)) (positions k (axis k e))
+  same-reading R.Status e = ap (λ (x : ℕ). One letterS (coded 6 x)) status
+  same-reading R.Everything e = refl
+  same-reading R.Inputs e = ap (One letterR) inputs
+
+  same-answer : (c : Command) (digits : ℕ) → fits c ≡ true → answerOf t c digits ≡ answerOf u c digits
+  same-answer (C.Distance k minus d) digits e = refl
+  same-answer (C.Set code v) digits e = refl
+  same-answer (C.Start k waits) digits e = refl
+  same-answer (C.Order code) digits e = refl
+  same-answer (C.Outputs v) digits e = ap (One letterR) inputs
+  same-answer (C.Read r) digits e = same-reading r e
 
   same-numbers : numbers t ≡ numbers u
   same-numbers =
@@ -138,8 +142,8 @@ module _ (t u : Told) (switch : t .switch ≡ u .switch) (travels : (k : ℕ) �
   same-bytes (One letter n) ident = ap (λ (s : ℕ). blockFor s letter n ident) switch
   same-bytes All ident = λ i. rowOf 12 letters (same-numbers i) (switch i) ident
 
-  pub reply-same : (c : Command) → axesFit c → (digits : ℕ) (ident : Ident)
+  pub reply-same : (c : Command) → fits c ≡ true → (digits : ℕ) (ident : Ident)
       → replyOf t c digits ident ≡ replyOf u c digits ident
   unfolding replyOf
-  reply-same c fits digits ident =
-      same-bytes (answerOf t c digits) ident ∙ ap (λ (a : Answer). bytesOf u a ident) (same-answer c digits fits)
+  reply-same c e digits ident =
+      same-bytes (answerOf t c digits) ident ∙ ap (λ (a : Answer). bytesOf u a ident) (same-answer c digits e)

@@ -1,17 +1,20 @@
 -- The replies (paper 01, "Lines", Replies): what each accepted command answers, from the figures that a controller can
 -- tell, and how a travel and a position are held.
-use Prim.Native.Nat.{ℕ, _+_, _-_, _*_, _%_, _<_}
+use Prim.Native.Nat.{ℕ, _+_, _-_, _*_, _%_}
 use mathlib.Core.Bool.{Bool, false, cond}
 use mathlib.Core.List.{List, [], _∷_}
 use lib.Dec.{ltb}
 use lib.IntN.{ℤ, pos, negsuc, _+ℤ_}
 use lib.ListN.{getD}
 use Rattle.laws.specs.Bits.{weight}
+use Rattle.digits.specs.Digits.{fiveDigits, topBit}
 use Rattle.digits.specs.declared.Ident.{Ident}
 use Rattle.digits.specs.declared.Ident.the-variants.{Absent}
 use Rattle.block.specs.Block.{blockOf, rowOf}
-use Rattle.line.specs.declared.Command.{Command}
-use Rattle.line.specs.declared.Command.the-variants as C
+use Rattle.line.specs.declared.command.Command.{Command}
+use Rattle.line.specs.declared.command.Command.the-variants as C
+use Rattle.line.specs.declared.command.Reading.{Reading}
+use Rattle.line.specs.declared.command.Reading.the-variants as R
 use Rattle.reply.specs.declared.Answer.{Answer}
 use Rattle.reply.specs.declared.Answer.the-variants.{One, All}
 use Rattle.reply.specs.declared.Position.{Position}
@@ -28,16 +31,31 @@ pub record Told : Type 0 where
 
 -- A code and the five digits after it.
 abbrev pub coded : ℕ → ℕ → ℕ
-coded code v = code * 1048576 + v
+coded code v = code * fiveDigits + v
 
--- One block: U (85), S (83), s (115) or R (82), the switch, the digits, the identification.
+-- The letters U, S, s and R.
+abbrev pub letterU : ℕ
+letterU = 85
+
+abbrev pub letterS : ℕ
+letterS = 83
+
+abbrev pub letterSmallS : ℕ
+letterSmallS = 115
+
+abbrev pub letterR : ℕ
+letterR = 82
+
+-- One block: its letter, the switch, the digits, the identification.
 abbrev pub blockFor : ℕ → ℕ → ℕ → Ident → List ℕ
 blockFor switch letter digits ident =
     blockOf (record { letter = letter; switch = switch; number = digits; ident = ident })
 
 -- q 8: the five S travels, S status, five s, R, each with the identification.
 abbrev pub letters : List ℕ
-letters = 83 ∷ 83 ∷ 83 ∷ 83 ∷ 83 ∷ 83 ∷ 115 ∷ 115 ∷ 115 ∷ 115 ∷ 115 ∷ 82 ∷ []
+letters =
+    letterS ∷ letterS ∷ letterS ∷ letterS ∷ letterS ∷ letterS
+    ∷ letterSmallS ∷ letterSmallS ∷ letterSmallS ∷ letterSmallS ∷ letterSmallS ∷ letterR ∷ []
 
 abbrev pub numbers : Told → List ℕ
 numbers t =
@@ -47,27 +65,27 @@ numbers t =
     ∷ coded 0 (t .position 0) ∷ coded 1 (t .position 1) ∷ coded 2 (t .position 2) ∷ coded 3 (t .position 3)
     ∷ coded 4 (t .position 4) ∷ t .inputs ∷ []
 
--- P: U with 000000. Q readings: S, code, the latest move's minus bit with travel, or status. Other Q: S echoing the
--- digits, absent ones 0. q: s, code, position; q 8 everything. W: R with the last tick's inputs.
+-- Q readings: S, code, the latest move's minus bit with travel, or status. q: s, code, position; q 8 everything. W: R
+-- with the last tick's inputs.
+abbrev pub readingOf : Told → Reading → Answer
+readingOf t (R.Travel k) = One letterS (coded k (t .travel k))
+readingOf t (R.Position k) = One letterSmallS (coded k (t .position k))
+readingOf t R.Status = One letterS (coded 6 (t .status))
+readingOf t R.Everything = All
+readingOf t R.Inputs = One letterR (t .inputs)
+
+-- A setting: P (codes to C) U with 000000, Q (D and E) S echoing.
+abbrev pub settingOf : ℕ → ℕ → Answer
+settingOf code digits = cond (ltb code 13) (One letterU 0) (One letterS digits)
+
+-- P: U with 000000. Readings as above. Other Q: S echoing the digits, absent ones 0. W: R with the last tick's inputs.
 abbrev pub answerOf : Told → Command → ℕ → Answer
-answerOf t (C.Distance k minus d) digits = One 85 0
-answerOf t (C.Speed v) digits = One 85 0
-answerOf t (C.Slope v) digits = One 85 0
-answerOf t (C.Dwell v) digits = One 85 0
-answerOf t (C.Watch v) digits = One 85 0
-answerOf t (C.Polarity v) digits = One 85 0
-answerOf t (C.Travel k) digits = One 83 (coded k (t .travel k))
-answerOf t C.Status digits = One 83 (coded 6 (t .status))
-answerOf t (C.Start k waits) digits = One 83 digits
-answerOf t C.Stop digits = One 83 digits
-answerOf t C.ClearWrongMaster digits = One 83 digits
-answerOf t C.ResetPositions digits = One 83 digits
-answerOf t (C.LowOn v) digits = One 83 digits
-answerOf t (C.HighOn v) digits = One 83 digits
-answerOf t (C.Position k) digits = One 115 (coded k (t .position k))
-answerOf t C.Everything digits = All
-answerOf t C.Inputs digits = One 82 (t .inputs)
-answerOf t (C.Outputs v) digits = One 82 (t .inputs)
+answerOf t (C.Distance k minus d) digits = One letterU 0
+answerOf t (C.Set code v) digits = settingOf code digits
+answerOf t (C.Start k waits) digits = One letterS digits
+answerOf t (C.Order code) digits = One letterS digits
+answerOf t (C.Outputs v) digits = One letterR (t .inputs)
+answerOf t (C.Read r) digits = readingOf t r
 
 -- The bytes of an answer.
 abbrev pub bytesOf : Told → Answer → Ident → List ℕ
@@ -83,22 +101,22 @@ abbrev pub refusalIdent : ℕ → Ident → Ident
 refusalIdent n ident = cond (ltb n 8) Absent ident
 
 unfoldable pub refusalOf : ℕ → ℕ → Ident → List ℕ
-refusalOf switch n ident = blockFor switch 85 n (refusalIdent n ident)
+refusalOf switch n ident = blockFor switch letterU n (refusalIdent n ident)
 
 -- The five digits of a travel: the minus bit, then 19 bits.
 abbrev pub travelDigits : Bool → ℕ → ℕ
-travelDigits minus travel = weight minus 524288 + travel
+travelDigits minus travel = weight minus topBit + travel
 
 -- A position in 20-bit two's complement.
 abbrev pub twenty : ℤ → ℕ
-twenty (pos n) = n % 1048576
-twenty (negsuc n) = 1048575 - n % 1048576
+twenty (pos n) = n % fiveDigits
+twenty (negsuc n) = 1048575 - n % fiveDigits
 
 -- ---- How a travel and a position are held, for every value of them.
 
 -- A position is held with 524,288 added.
 abbrev pub bias : ℤ → ℕ
-bias (pos n) = n + 524288
+bias (pos n) = n + topBit
 bias (negsuc n) = 524287 - n
 
 -- The position that is held so: what is held less 524,288, whatever is held.
@@ -107,37 +125,15 @@ positionOf p = pos (p .0) +ℤ negsuc 524287
 
 -- Position 0, as it is held.
 abbrev pub origin : Position
-origin = record { 0 = 524288 }
+origin = record { 0 = topBit }
 
 -- What readings tell: of a travel its low 19 bits. An axis that is not there reads as one that never moved: plus,
 -- travel 0, position 0.
 abbrev pub toldBy : Readings → Told
 toldBy r = record {
   switch = r .switch;
-  travel = λ k. travelDigits (getD (r .minus) k false) (getD (r .travels) k (record { 0 = 0 }) .0 % 524288);
+  travel = λ k. travelDigits (getD (r .minus) k false) (getD (r .travels) k (record { 0 = 0 }) .0 % topBit);
   position = λ k. twenty (positionOf (getD (r .positions) k origin));
   status = r .status;
   inputs = r .inputs;
 }
-
--- ---- A command that reads an axis's travel or position reads one of the five.
-
-abbrev pub axesFit : Command → Type 0
-axesFit (C.Distance k minus d) = 0 < 1
-axesFit (C.Speed v) = 0 < 1
-axesFit (C.Slope v) = 0 < 1
-axesFit (C.Dwell v) = 0 < 1
-axesFit (C.Watch v) = 0 < 1
-axesFit (C.Polarity v) = 0 < 1
-axesFit (C.Travel k) = k < 5
-axesFit C.Status = 0 < 1
-axesFit (C.Start k waits) = 0 < 1
-axesFit C.Stop = 0 < 1
-axesFit C.ClearWrongMaster = 0 < 1
-axesFit C.ResetPositions = 0 < 1
-axesFit (C.LowOn v) = 0 < 1
-axesFit (C.HighOn v) = 0 < 1
-axesFit (C.Position k) = k < 5
-axesFit C.Everything = 0 < 1
-axesFit C.Inputs = 0 < 1
-axesFit (C.Outputs v) = 0 < 1

@@ -10,23 +10,24 @@ ghost use Rattle.reply.specs.Reply.{
   origin,
   positionOf,
   toldBy,
+  readingOf,
   answerOf,
   replyOf,
   refusalIdent,
   refusalOf,
 };
 use block::Block;
+use digits::FIVE_DIGITS;
 use digits::Ident;
-use line::Command;
+use digits::TOP_BIT;
+use line::command::AXES;
+use line::command::Command;
+use line::command::Reading;
 
-// The axes.
-const AXES: u8 = 5;
-// What five digits count to: the place of the code before them.
-const FIVE_DIGITS: u32 = 1048576;
-// Half of it: the top bit of five digits, and what a held position has added.
-const HALF: u32 = 524288;
 // The code of the status.
 const STATUS: u32 = 6;
+// The lowest code of a setting whose line Q is echoed.
+const ECHOED: u8 = 13;
 // The lowest number of a turned-away line that is answered with its identification.
 const WITH_IDENT: u8 = 8;
 
@@ -42,7 +43,7 @@ impl Position {
         ensures { λ r. ⌜ r ≡ positionOf self ⌝ }
     {
         let held = self.0;
-        held as i64 - HALF as i64
+        held as i64 - TOP_BIT as i64
     }
 }
 
@@ -89,7 +90,7 @@ fn position_at(positions: [Position; 5], axis: u8) -> Position
     ensures { λ r. ⌜ r ≡ getD positions axis origin ⌝ }
 {
     if AXES <= axis {
-        return Position(HALF);
+        return Position(TOP_BIT);
     }
     positions[axis as usize]
 }
@@ -102,9 +103,9 @@ fn travel_number(readings: Readings, axis: u8) -> u32
     let travels = readings.travels;
     let minus = minus_at(signs, axis);
     let travel = travel_at(travels, axis);
-    let number = axis as u32 * FIVE_DIGITS + travel.0 % HALF;
+    let number = axis as u32 * FIVE_DIGITS + travel.0 % TOP_BIT;
     if minus {
-        return number + HALF;
+        return number + TOP_BIT;
     }
     number
 }
@@ -115,7 +116,7 @@ fn position_number(readings: Readings, axis: u8) -> u32
 {
     let positions = readings.positions;
     let position = position_at(positions, axis);
-    axis as u32 * FIVE_DIGITS + (position.0 % FIVE_DIGITS + HALF) % FIVE_DIGITS
+    axis as u32 * FIVE_DIGITS + (position.0 % FIVE_DIGITS + TOP_BIT) % FIVE_DIGITS
 }
 
 // The six digits of the status.
@@ -123,6 +124,19 @@ fn status_number(status: u8) -> u32
     ensures { λ r. ⌜ r ≡ coded 6 status ⌝ }
 {
     STATUS * FIVE_DIGITS + status as u32
+}
+
+// What a reading is answered.
+fn reading_answer(readings: Readings, reading: Reading) -> Answer
+    ensures { λ r. ⌜ r ≡ readingOf (toldBy readings) reading ⌝ }
+{
+    match reading {
+        Reading::Travel(axis) => Answer::One(b'S', travel_number(readings, axis)),
+        Reading::Position(axis) => Answer::One(b's', position_number(readings, axis)),
+        Reading::Status => Answer::One(b'S', status_number(readings.status)),
+        Reading::Everything => Answer::All,
+        Reading::Inputs => Answer::One(b'R', readings.inputs),
+    }
 }
 
 // What an accepted command with these six digits is answered.
@@ -135,26 +149,19 @@ fn answer_to(readings: Readings, command: Command, digits: u32) -> Answer
             minus: _,
             length: _,
         } => Answer::One(b'U', 0),
-        Command::Speed(_) => Answer::One(b'U', 0),
-        Command::Slope(_) => Answer::One(b'U', 0),
-        Command::Dwell(_) => Answer::One(b'U', 0),
-        Command::Watch(_) => Answer::One(b'U', 0),
-        Command::Polarity(_) => Answer::One(b'U', 0),
-        Command::Travel(axis) => Answer::One(b'S', travel_number(readings, axis)),
-        Command::Status => Answer::One(b'S', status_number(readings.status)),
+        Command::Set { code, value: _ } => {
+            if code < ECHOED {
+                return Answer::One(b'U', 0);
+            }
+            Answer::One(b'S', digits)
+        }
         Command::Start {
             master: _,
             waits: _,
         } => Answer::One(b'S', digits),
-        Command::Stop => Answer::One(b'S', digits),
-        Command::ClearWrongMaster => Answer::One(b'S', digits),
-        Command::ResetPositions => Answer::One(b'S', digits),
-        Command::LowOn(_) => Answer::One(b'S', digits),
-        Command::HighOn(_) => Answer::One(b'S', digits),
-        Command::Position(axis) => Answer::One(b's', position_number(readings, axis)),
-        Command::Everything => Answer::All,
-        Command::Inputs => Answer::One(b'R', readings.inputs),
+        Command::Order(_) => Answer::One(b'S', digits),
         Command::Outputs(_) => Answer::One(b'R', readings.inputs),
+        Command::Read(reading) => reading_answer(readings, reading),
     }
 }
 
