@@ -4,7 +4,7 @@ use native.Mathlib.Omega.{arith}
 use mathlib.Core.Bool.{Bool, true, false, _&&_, false≢true}
 use mathlib.Core.Path.{_≡_, refl}
 use lib.Dec.{ltb, leb, eqb}
-use borrow.Author.Tests.{ltb-true, leb-true, le-leb, eqb-true}
+use borrow.Author.Tests.{ltb-true, leb-true, le-leb, eqb-true, ne-eqb}
 use Rattle.digits.specs.Digits.{sixDigits, topBit}
 use Rattle.laws.proofs.Pick.{by-eq}
 use Rattle.line.specs.declared.command.Command.the-variants as C
@@ -45,6 +45,15 @@ outputs v e = ltb-true v sixDigits e
 -- What holds or not of a number that is n, or is another.
 cases : {P : Type 0} (k n : ℕ) → (k ≡ n → P) → ((k ≡ n → ⊥) → P) → P
 cases {P} k n p q = by-eq (λ (_ : Bool). P) k n true false p q
+
+-- A fact about any number, by whether it is the code of an order that names nothing else.
+pub by-code : (P : ℕ → Type 0) → P 9 → P 10 → P 11
+    → ((k : ℕ) → eqb k 9 ≡ false → eqb k 10 ≡ false → eqb k 11 ≡ false → P k) → (k : ℕ) → P k
+by-code P p9 p10 p11 p k =
+    cases k 9 (λ q. rw q p9)
+    λ a. cases k 10 (λ q. rw q p10)
+    λ b. cases k 11 (λ q. rw q p11)
+    λ c. p k (ne-eqb k 9 a) (ne-eqb k 10 b) (ne-eqb k 11 c)
 
 -- A fact about an order that names nothing else, by its code.
 pub by-order : (P : ℕ → Type 0) → P 9 → P 10 → P 11 → (k : ℕ) → fits (C.Order k) ≡ true → P k

@@ -12,8 +12,9 @@ use Rattle.laws.specs.Axes.{some, directed}
 use Rattle.laws.proofs.Pick.{by-bool}
 use Rattle.laws.proofs.Five.{five}
 use Rattle.digits.specs.declared.Ident.{Ident}
-use Rattle.line.specs.declared.Command.{Command}
-use Rattle.line.specs.declared.Command.the-variants as C
+use Rattle.line.specs.declared.command.Command.{Command}
+use Rattle.line.specs.declared.command.Command.the-variants as C
+use Rattle.line.proofs.Ranges.{by-code}
 use Rattle.line.specs.declared.Judged.{Judged}
 use Rattle.line.specs.declared.Judged.the-variants.{Accepted, Refused}
 use Rattle.receiver.specs.declared.Heard.{Heard}
@@ -36,7 +37,7 @@ use Rattle.machine.specs.Shares.{whole}
 use Rattle.machine.specs.Ramp.{runs}
 use Rattle.machine.specs.Stops.{takes, cause, limitOrWatch, stops, stopping, marks, sensorActive, blocked}
 use Rattle.machine.specs.Starts.{startNumber, newMove, begun, notes, outside, final}
-use Rattle.machine.specs.Commands.{number, does, stores, setAxis, drops, keepsStart}
+use Rattle.machine.specs.Commands.{number, does, stores, setAxis, drops, keepsStart, obeys}
 use Rattle.machine.specs.Steps.{
   Outcome,
   refused,
@@ -335,21 +336,26 @@ at-rest : (b : Bool) → b && true ≡ false → b ≡ false
 at-rest true e = e
 at-rest false e = e
 
--- An accepted line.
-called-accepted : (m : Machine) (b : ℕ) (c : Command) → Good (m .move) → number m c ≡ 0
-    → Called m (roleOf c) (startBy (m .pause) (roleOf c)) (stopBy m (roleOf c)) false (λ k. pos 0)
-    (withWatch (does (heardBy m b) c) 0)
-called-accepted m b (C.Distance j s d) g e = called-distance m _ j d s g refl refl refl
-called-accepted m b (C.Speed v) g e = called-same m _ false g (record { next = refl; move = refl; position = refl })
-called-accepted m b (C.Slope v) g e = called-same m _ false g (record { next = refl; move = refl; position = refl })
-called-accepted m b (C.Dwell v) g e =
-    called-quiet m _ (dwellLine v) (record { distance = λ j n. refl; minus = λ j b. refl; reset = refl }) g
-    (record { next = refl; move = refl; position = refl })
-called-accepted m b (C.Watch v) g e = called-same m _ false g (record { next = refl; move = refl; position = refl })
-called-accepted m b (C.Polarity v) g e = called-same m _ false g (record { next = refl; move = refl; position = refl })
-called-accepted m b (C.Travel k) g e = called-same m _ false g (record { next = refl; move = refl; position = refl })
-called-accepted m b C.Status g e = called-same m _ false g (record { next = refl; move = refl; position = refl })
-called-accepted m b (C.Start k w) g e = when (stores m w) refl
+-- An accepted line, whose command leaves the machine a.
+abbrev Accepts : Machine → Command → Machine → Type 0
+Accepts m c a =
+    Called m (roleOf c) (startBy (m .pause) (roleOf c)) (stopBy m (roleOf c)) false (λ k. pos 0) (withWatch a 0)
+
+called-setting : (m : Machine) (b code v : ℕ) → Good (m .move)
+    → Accepts m (C.Set code v) (does (heardBy m b) (C.Set code v))
+called-setting m b code v g = when (eqb code 10)
+  where
+    when : (t : Bool)
+        → Called m (cond t (dwellLine v) other) (startBy (m .pause) (cond t (dwellLine v) other))
+        (stopBy m (cond t (dwellLine v) other)) false (λ k. pos 0) (withWatch (does (heardBy m b) (C.Set code v)) 0)
+    when true =
+        called-quiet m _ (dwellLine v) (record { distance = λ j n. refl; minus = λ j b. refl; reset = refl }) g
+        (record { next = refl; move = refl; position = refl })
+    when false = called-same m _ false g (record { next = refl; move = refl; position = refl })
+
+called-starting : (m : Machine) (b k : ℕ) (w : Bool) → Good (m .move) → number m (C.Start k w) ≡ 0
+    → Accepts m (C.Start k w) (does (heardBy m b) (C.Start k w))
+called-starting m b k w g e = when (stores m w) refl
   where
     p11 : (m .move .moving && true ≡ false) × (cond (stores m w) 0 (startNumber m k) ≡ 0)
     p11 = passed (m .move .moving && true) 11 _ (omega arith) e
@@ -366,8 +372,10 @@ called-accepted m b (C.Start k w) g e = when (stores m w) refl
         called-start m k w _
         (ready m k (subst (λ (t : Bool). cond t 0 (startNumber m k) ≡ 0) f (p11 .1)))
         (at-rest (m .move .moving) (p11 .0)) f refl refl refl
-called-accepted m b C.Stop g e =
-    subst (λ (t : Bool). Called m stopOrder untried t false (λ k. pos 0) (withWatch (does (heardBy m b) C.Stop) 0))
+
+called-stopping : (m : Machine) (b : ℕ) → Good (m .move) → Accepts m (C.Order 9) (obeys (heardBy m b) 9)
+called-stopping m b g =
+    subst (λ (t : Bool). Called m stopOrder untried t false (λ k. pos 0) (withWatch (obeys (heardBy m b) 9) 0))
     (sym (status-moving m)) (when (m .move .moving) refl)
   where
     when : (t : Bool) → m .move .moving ≡ t
@@ -376,15 +384,22 @@ called-accepted m b C.Stop g e =
         (withFlags (withMove (heardBy m b) (stopping (m .move))) (marks (m .flags) true false)) (heardBy m b))) 0)
     when true f = called-stop m _ g true f refl refl refl
     when false f = called-stop m _ g false f refl refl refl
-called-accepted m b C.ClearWrongMaster g e =
-    called-same m _ false g (record { next = refl; move = refl; position = refl })
-called-accepted m b C.ResetPositions g e = called-reset m _ g refl refl refl
-called-accepted m b (C.LowOn v) g e = called-same m _ false g (record { next = refl; move = refl; position = refl })
-called-accepted m b (C.HighOn v) g e = called-same m _ false g (record { next = refl; move = refl; position = refl })
-called-accepted m b (C.Position k) g e = called-same m _ false g (record { next = refl; move = refl; position = refl })
-called-accepted m b C.Everything g e = called-same m _ false g (record { next = refl; move = refl; position = refl })
-called-accepted m b C.Inputs g e = called-same m _ false g (record { next = refl; move = refl; position = refl })
+
+called-order : (m : Machine) (b code : ℕ) → Good (m .move) → Accepts m (C.Order code) (obeys (heardBy m b) code)
+called-order m b code g =
+    by-code (λ (k : ℕ). Accepts m (C.Order k) (obeys (heardBy m b) k)) (called-stopping m b g)
+    (called-same m _ false g (record { next = refl; move = refl; position = refl }))
+    (called-reset m _ g refl refl refl)
+    (λ k p q r. rw (p, q, r) (called-same m _ false g (record { next = refl; move = refl; position = refl }))) code
+
+called-accepted : (m : Machine) (b : ℕ) (c : Command) → Good (m .move) → number m c ≡ 0
+    → Accepts m c (does (heardBy m b) c)
+called-accepted m b (C.Distance j s d) g e = called-distance m _ j d s g refl refl refl
+called-accepted m b (C.Set code v) g e = called-setting m b code v g
+called-accepted m b (C.Start k w) g e = called-starting m b k w g e
+called-accepted m b (C.Order code) g e = called-order m b code g
 called-accepted m b (C.Outputs v) g e = called-same m _ false g (record { next = refl; move = refl; position = refl })
+called-accepted m b (C.Read r) g e = called-same m _ false g (record { next = refl; move = refl; position = refl })
 
 -- A byte whose outcome is o.
 abbrev pub Byte : Machine → ℕ → Outcome → Type 0

@@ -7,19 +7,21 @@ use mathlib.Core.List.{List, [], _∷_}
 use mathlib.Core.Path.{_≡_, refl, sym, ap, subst, _∙_}
 use native.Mathlib.Omega.{arith}
 use native.Mathlib.Nat.{div-le-of-le-mul, mul-le-mul-right, min-le-right, max-le}
-use borrow.Author.Tests.{eqb-true, eqb-false, not-false}
+use borrow.Author.Tests.{leb-true, eqb-true, eqb-false, not-false}
 use lib.Dec.{ltb, leb, eqb}
 use lib.IntN.{ℤ, pos, _+ℤ_, +ℤ-idr}
 use lib.ListN.{length}
 use Rattle.laws.specs.Axes.{directed}
-use Rattle.laws.proofs.Pick.{by-bool, by-lt, by-le}
+use Rattle.laws.proofs.Pick.{by-bool, by-lt, by-le, by-eq}
 use Rattle.digits.specs.declared.Ident.{Ident}
-use Rattle.line.specs.declared.Command.{Command}
-use Rattle.line.specs.declared.Command.the-variants as C
+use Rattle.line.specs.declared.command.Command.{Command}
+use Rattle.line.specs.declared.command.Command.the-variants as C
 use Rattle.line.specs.declared.Judged.{Judged}
 use Rattle.line.specs.declared.Judged.the-variants.{Accepted, Refused}
 use Rattle.line.specs.Line.{silentOf, identOf, judgeOf}
+use Rattle.line.specs.Ranges.{settingFits}
 use Rattle.line.specs.Fits.{CommandFits, JudgedFits}
+use Rattle.line.proofs.Ranges.{within, axis, distance, by-code}
 use Rattle.line.proofs.Fits.{judge-fits}
 use Rattle.receiver.specs.Receiver.{Receipt}
 use Rattle.reply.specs.Reply.{bias}
@@ -54,7 +56,7 @@ use Rattle.machine.specs.Ramp.{
 }
 use Rattle.machine.specs.Stops.{takes, cause, stops, stopping, marks}
 use Rattle.machine.specs.Starts.{startNumber, begun, notes, outside}
-use Rattle.machine.specs.Commands.{number, does, stores, drops, keepsStart}
+use Rattle.machine.specs.Commands.{number, does, stores, drops, keepsStart, obeys}
 use Rattle.machine.specs.Steps.{
   powerOn,
   Outcome,
@@ -433,31 +435,19 @@ free : (b : Bool) → b && true ≡ false → b ≡ false
 free true e = e
 free false e = e
 
-pub fits-does : (m : Machine) (b : ℕ) (c : Command) → Fits m → CommandFits c → number m c ≡ 0
-    → Fits (withWatch (does (heardBy m b) c) 0)
-fits-does m b (C.Distance k s d) f h e = record {
-  settings = f .settings;
-  next = λ j l. by-bool (λ (x : ℕ). x ≤ 524287) (eqb j k) _ _ (λ q. let r = h .1 in omega (arith, r))
-      (λ q. f .next j l);
-  move = f .move;
-  places = f .places;
-  pause = f .pause;
-}
-fits-does m b (C.Speed v) f h e =
-    fits-set m _ f (record { speed = h .1; slope = f .settings .slope; dwell = f .settings .dwell }) refl refl refl refl
-fits-does m b (C.Slope v) f h e =
-    fits-set m _ f (record { speed = f .settings .speed; slope = h .1; dwell = f .settings .dwell }) refl refl refl refl
-fits-does m b (C.Dwell v) f h e =
-    fits-set m _ f (record { speed = f .settings .speed; slope = f .settings .slope; dwell = h }) refl refl refl refl
-fits-does m b (C.Watch v) f h e =
-    fits-set m _ f (record { speed = f .settings .speed; slope = f .settings .slope; dwell = f .settings .dwell })
-    refl refl refl refl
-fits-does m b (C.Polarity v) f h e =
-    fits-set m _ f (record { speed = f .settings .speed; slope = f .settings .slope; dwell = f .settings .dwell })
-    refl refl refl refl
-fits-does m b (C.Travel k) f h e = fits-same m _ f refl refl refl refl refl
-fits-does m b C.Status f h e = fits-same m _ f refl refl refl refl refl
-fits-does m b (C.Start k w) f h e = when (stores m w) refl
+fits-setting : (m : Machine) (b code v : ℕ) → Fits m → settingFits code v ≡ true
+    → Fits (withWatch (does (heardBy m b) (C.Set code v)) 0)
+fits-setting m b code v f h =
+    fits-set m _ f (record {
+      speed = by-eq (λ (x : ℕ). x ≤ 1000000) code 8 _ _ (λ q. within v 1 1000000 (rw q at h) .1)
+          (λ _. f .settings .speed);
+      slope = by-eq (λ (x : ℕ). x ≤ 4095) code 9 _ _ (λ q. within v 1 4095 (rw q at h) .1) (λ _. f .settings .slope);
+      dwell = by-eq (λ (x : ℕ). x ≤ 16383) code 10 _ _ (λ q. leb-true v 16383 (rw q at h)) (λ _. f .settings .dwell);
+    }) refl refl refl refl
+
+fits-starting : (m : Machine) (b k : ℕ) (w : Bool) → Fits m → k < 5 → number m (C.Start k w) ≡ 0
+    → Fits (withWatch (does (heardBy m b) (C.Start k w)) 0)
+fits-starting m b k w f h e = when (stores m w) refl
   where
     p11 : (m .move .moving && true ≡ false) × (cond (stores m w) 0 (startNumber m k) ≡ 0)
     p11 = passed (m .move .moving && true) 11 _ (omega arith) e
@@ -475,7 +465,9 @@ fits-does m b (C.Start k w) f h e = when (stores m w) refl
     when false q =
         let g = fits-begun m k f h (ready m k (subst (λ (t : Bool). cond t 0 (startNumber m k) ≡ 0) q (p11 .1))) in
         record { settings = g .settings; next = g .next; move = g .move; places = g .places; pause = g .pause }
-fits-does m b C.Stop f h e = when (m .move .moving)
+
+fits-stop : (m : Machine) (b : ℕ) → Fits m → Fits (withWatch (obeys (heardBy m b) 9) 0)
+fits-stop m b f = when (m .move .moving)
   where
     dropped : PauseFits (record { left = m .pause .left; waiting = none })
     dropped = record { left = f .pause .left; waiting = omega arith }
@@ -484,28 +476,39 @@ fits-does m b C.Stop f h e = when (m .move .moving)
         (withFlags (withMove (heardBy m b) (stopping (m .move))) (marks (m .flags) true false)) (heardBy m b))) 0)
     when true = fits-stopping m _ f refl refl refl refl dropped
     when false = record { settings = f .settings; next = f .next; move = f .move; places = f .places; pause = dropped }
-fits-does m b C.ClearWrongMaster f h e = fits-same m _ f refl refl refl refl refl
-fits-does m b C.ResetPositions f h e = record {
+
+fits-order : (m : Machine) (b code : ℕ) → Fits m → Fits (withWatch (obeys (heardBy m b) code) 0)
+fits-order m b code f =
+    by-code (λ (k : ℕ). Fits (withWatch (obeys (heardBy m b) k) 0)) (fits-stop m b f)
+    (fits-same m _ f refl refl refl refl refl)
+    (record {
+      settings = f .settings;
+      next = f .next;
+      move = f .move;
+      places = record {
+        inside = λ k l. refl;
+        room = λ q k l. reset-room (m .move .plan .minus k) (m .move .plan .distance k) (m .move .travel k)
+            (f .move .plan k l);
+      };
+      pause = f .pause;
+    })
+    (λ k p q r. rw (p, q, r) (fits-same m _ f refl refl refl refl refl)) code
+
+pub fits-does : (m : Machine) (b : ℕ) (c : Command) → Fits m → CommandFits c → number m c ≡ 0
+    → Fits (withWatch (does (heardBy m b) c) 0)
+fits-does m b (C.Distance k s d) f h e = record {
   settings = f .settings;
-  next = f .next;
+  next = λ j l. by-bool (λ (x : ℕ). x ≤ 524287) (eqb j k) _ _ (λ q. let r = distance k s d h .1 in omega (arith, r))
+      (λ q. f .next j l);
   move = f .move;
-  places = record {
-    inside = λ k l. refl;
-    room = λ q k l. reset-room (m .move .plan .minus k) (m .move .plan .distance k) (m .move .travel k)
-        (f .move .plan k l);
-  };
+  places = f .places;
   pause = f .pause;
 }
-fits-does m b (C.LowOn v) f h e =
-    fits-set m _ f (record { speed = f .settings .speed; slope = f .settings .slope; dwell = f .settings .dwell })
-    refl refl refl refl
-fits-does m b (C.HighOn v) f h e =
-    fits-set m _ f (record { speed = f .settings .speed; slope = f .settings .slope; dwell = f .settings .dwell })
-    refl refl refl refl
-fits-does m b (C.Position k) f h e = fits-same m _ f refl refl refl refl refl
-fits-does m b C.Everything f h e = fits-same m _ f refl refl refl refl refl
-fits-does m b C.Inputs f h e = fits-same m _ f refl refl refl refl refl
+fits-does m b (C.Set code v) f h e = fits-setting m b code v f h
+fits-does m b (C.Start k w) f h e = fits-starting m b k w f (axis k h) e
+fits-does m b (C.Order code) f h e = fits-order m b code f
 fits-does m b (C.Outputs v) f h e = fits-same m _ f refl refl refl refl refl
+fits-does m b (C.Read r) f h e = fits-same m _ f refl refl refl refl refl
 
 fits-refused : (m : Machine) (b n : ℕ) (silent : Bool) (ident : Ident) → Fits m
     → Fits (answered m b (refused n silent ident) .machine)

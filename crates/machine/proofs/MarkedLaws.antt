@@ -3,7 +3,7 @@ use mathlib.Core.List.{[], _∷_}
 use mathlib.Core.Path.{_≡_, refl, ap}
 use Rattle.digits.specs.Digits.{sixOf, numberOf}
 use Rattle.block.specs.Block.{blockOf}
-use Rattle.line.specs.Line.{judgeOf, judgeForm}
+use Rattle.line.specs.Line.{judgeOf, judgeRow}
 use Rattle.reply.specs.Reply.{replyOf}
 use Rattle.machine.specs.Calls.{run}
 use Rattle.machine.specs.Marked.{column, firstPulse, travels, ticked, five, Marked}
@@ -15,11 +15,11 @@ rows : travels 480 five
     ∷ (3 ∷ 1 ∷ 1 ∷ 3 ∷ 0 ∷ [])
     ∷ (4 ∷ 1 ∷ 2 ∷ 4 ∷ 0 ∷ [])
     ∷ (5 ∷ 2 ∷ 3 ∷ 5 ∷ 0 ∷ []) ∷ []
-unfolding run travels numberOf judgeOf judgeForm
+unfolding run travels numberOf judgeOf judgeRow
 rows = refl
 
 pub marked : Marked
-unfolding run firstPulse ticked numberOf judgeOf judgeForm sixOf blockOf replyOf
+unfolding run firstPulse ticked numberOf judgeOf judgeRow sixOf blockOf replyOf
 marked = record {
   master = ap (column 0) rows;
   two = ap (column 1) rows;

@@ -9,8 +9,9 @@ use lib.Dec.{ltb, leb, eqb}
 use lib.ListN.{length}
 use Rattle.laws.proofs.Pick.{by-bool}
 use Rattle.digits.specs.declared.Ident.{Ident}
-use Rattle.line.specs.declared.Command.{Command}
-use Rattle.line.specs.declared.Command.the-variants as C
+use Rattle.line.specs.declared.command.Command.{Command}
+use Rattle.line.specs.declared.command.Command.the-variants as C
+use Rattle.line.proofs.Ranges.{by-code}
 use Rattle.line.specs.declared.Judged.{Judged}
 use Rattle.line.specs.declared.Judged.the-variants.{Accepted, Refused}
 use Rattle.receiver.specs.declared.Heard.{Heard}
@@ -21,7 +22,7 @@ use Rattle.machine.specs.Shares.{whole, gone}
 use Rattle.machine.specs.Ramp.{Ran, full, ramped, runs}
 use Rattle.machine.specs.Stops.{takes, cause, stops}
 use Rattle.machine.specs.Starts.{startNumber, begun}
-use Rattle.machine.specs.Commands.{number, does, stores, drops, keepsStart}
+use Rattle.machine.specs.Commands.{number, does, stores, drops, keepsStart, obeys}
 use Rattle.machine.specs.Steps.{
   Outcome,
   refused,
@@ -48,6 +49,8 @@ use Rattle.machine.specs.Steps.{
 }
 use Rattle.machine.specs.Calls.{Call, byte, tick, after}
 use Rattle.machine.specs.List.{
+  other,
+  dwellLine,
   roleOf,
   roleBy,
   lineOf,
@@ -71,13 +74,12 @@ does-pause : (m : Machine) (b : ℕ) (c : Command)
     → does (heardBy m b) c .pause
     ≡ pauseBy (m .pause) (startBy (m .pause) (roleOf c)) (waitingBy (m .pause) (roleOf c))
 does-pause m b (C.Distance k s d) = refl
-does-pause m b (C.Speed v) = refl
-does-pause m b (C.Slope v) = refl
-does-pause m b (C.Dwell v) = refl
-does-pause m b (C.Watch v) = refl
-does-pause m b (C.Polarity v) = refl
-does-pause m b (C.Travel k) = refl
-does-pause m b C.Status = refl
+does-pause m b (C.Set code v) = when (eqb code 10)
+  where
+    when : (t : Bool) → m .pause ≡ pauseBy (m .pause) (startBy (m .pause) (cond t (dwellLine v) other))
+        (waitingBy (m .pause) (cond t (dwellLine v) other))
+    when true = refl
+    when false = refl
 does-pause m b (C.Start k w) = when (stores m w)
   where
     when : (t : Bool)
@@ -85,40 +87,32 @@ does-pause m b (C.Start k w) = when (stores m w)
         ≡ pauseBy (m .pause) (cond t untried (began k)) (cond t (start k) none)
     when true = refl
     when false = refl
-does-pause m b C.Stop =
-    by-bool (λ (a : Machine). drops a .pause ≡ record { left = m .pause .left; waiting = none }) (m .move .moving) _ _
-    (λ e. refl) (λ e. refl)
-does-pause m b C.ClearWrongMaster = refl
-does-pause m b C.ResetPositions = refl
-does-pause m b (C.LowOn v) = refl
-does-pause m b (C.HighOn v) = refl
-does-pause m b (C.Position k) = refl
-does-pause m b C.Everything = refl
-does-pause m b C.Inputs = refl
+does-pause m b (C.Order code) =
+    by-code (λ (k : ℕ). obeys (heardBy m b) k .pause
+    ≡ pauseBy (m .pause) (startBy (m .pause) (roleOf (C.Order k))) (waitingBy (m .pause) (roleOf (C.Order k))))
+    (by-bool (λ (a : Machine). drops a .pause ≡ record { left = m .pause .left; waiting = none }) (m .move .moving) _ _
+    (λ e. refl) (λ e. refl))
+    refl refl (λ k p q r. rw (p, q, r)) code
 does-pause m b (C.Outputs v) = refl
+does-pause m b (C.Read r) = refl
 
 does-dwell : (m : Machine) (c : Command) → does m c .settings .dwell ≡ dwellBy (roleOf c) (m .settings .dwell)
 does-dwell m (C.Distance k s d) = refl
-does-dwell m (C.Speed v) = refl
-does-dwell m (C.Slope v) = refl
-does-dwell m (C.Dwell v) = refl
-does-dwell m (C.Watch v) = refl
-does-dwell m (C.Polarity v) = refl
-does-dwell m (C.Travel k) = refl
-does-dwell m C.Status = refl
+does-dwell m (C.Set code v) = when (eqb code 10)
+  where
+    when : (t : Bool)
+        → cond t v (m .settings .dwell) ≡ dwellBy (cond t (dwellLine v) other) (m .settings .dwell)
+    when true = refl
+    when false = refl
 does-dwell m (C.Start k w) =
     by-bool (λ (a : Machine). a .settings .dwell ≡ m .settings .dwell) (stores m w) _ _ (λ e. refl) (λ e. refl)
-does-dwell m C.Stop =
-    by-bool (λ (a : Machine). drops a .settings .dwell ≡ m .settings .dwell) (m .move .moving) _ _
-    (λ e. refl) (λ e. refl)
-does-dwell m C.ClearWrongMaster = refl
-does-dwell m C.ResetPositions = refl
-does-dwell m (C.LowOn v) = refl
-does-dwell m (C.HighOn v) = refl
-does-dwell m (C.Position k) = refl
-does-dwell m C.Everything = refl
-does-dwell m C.Inputs = refl
+does-dwell m (C.Order code) =
+    by-code (λ (k : ℕ). obeys m k .settings .dwell ≡ dwellBy (roleOf (C.Order k)) (m .settings .dwell))
+    (by-bool (λ (a : Machine). drops a .settings .dwell ≡ m .settings .dwell) (m .move .moving) _ _
+    (λ e. refl) (λ e. refl))
+    refl refl (λ k p q r. rw (p, q, r)) code
 does-dwell m (C.Outputs v) = refl
+does-dwell m (C.Read r) = refl
 
 -- A byte whose outcome is o.
 record Byte (m : Machine) (b : ℕ) (o : Outcome) : Type 0 where

@@ -1,7 +1,7 @@
 -- The lists of calls in specs/Witness.antt are what that file says, by computation. Assumes nothing.
 use mathlib.Core.Path.{refl}
 use Rattle.digits.specs.Digits.{numberOf}
-use Rattle.line.specs.Line.{judgeOf, judgeForm}
+use Rattle.line.specs.Line.{judgeOf, judgeRow}
 use Rattle.machine.specs.Calls.{run}
 use Rattle.machine.specs.List.{
   lastDistance,
@@ -37,7 +37,7 @@ use Rattle.machine.specs.Witness.{
 
 moved : Moved
 unfolding
-    numberOf judgeOf judgeForm run lastDistance lastMinus lastDwell paused started ends goesOn stopBegun distance minus
+    numberOf judgeOf judgeRow run lastDistance lastMinus lastDwell paused started ends goesOn stopBegun distance minus
     master counted signed latest begun ordered stopped again finished
 moved = record {
   resting = refl;
@@ -56,7 +56,7 @@ moved = record {
 
 stored : Stored
 unfolding
-    numberOf judgeOf judgeForm run lastDistance lastMinus lastDwell paused started ends goesOn stopBegun distance minus
+    numberOf judgeOf judgeRow run lastDistance lastMinus lastDwell paused started ends goesOn stopBegun distance minus
     master counted signed latest dwelling waiting passing failing
 stored = record {
   dwells = refl;
@@ -79,7 +79,7 @@ stored = record {
 }
 
 turned : TurnedAway
-unfolding numberOf judgeOf judgeForm run begun
+unfolding numberOf judgeOf judgeRow run begun
 turned = record {
   running = refl;
   emergency = refl;

@@ -9,8 +9,8 @@ use mathlib.Core.Bool.{Bool, true, false, cond, not, _&&_, _||_}
 use mathlib.Core.List.{List, [], _∷_}
 use lib.Dec.{ltb, eqb}
 use lib.IntN.{ℤ, pos, _+ℤ_, natAbs}
-use Rattle.line.specs.declared.Command.{Command}
-use Rattle.line.specs.declared.Command.the-variants as C
+use Rattle.line.specs.declared.command.Command.{Command}
+use Rattle.line.specs.declared.command.Command.the-variants as C
 use Rattle.machine.specs.State.{Machine, Waiting, none, start, Pause}
 use Rattle.laws.specs.Bits.{bit, weight}
 use Rattle.machine.specs.Stops.{cause, status}
@@ -44,25 +44,14 @@ pub data Role : Type 0 where
   stopOrder : Role
   resetOrder : Role
 
+-- Of the settings A is the dwell, of the orders 9 is stop and B is position reset.
 abbrev pub roleOf : Command → Role
 roleOf (C.Distance k s d) = distanceLine k s d
-roleOf (C.Speed v) = other
-roleOf (C.Slope v) = other
-roleOf (C.Dwell v) = dwellLine v
-roleOf (C.Watch v) = other
-roleOf (C.Polarity v) = other
-roleOf (C.Travel k) = other
-roleOf C.Status = other
+roleOf (C.Set code v) = cond (eqb code 10) (dwellLine v) other
 roleOf (C.Start k waits) = startLine k waits
-roleOf C.Stop = stopOrder
-roleOf C.ClearWrongMaster = other
-roleOf C.ResetPositions = resetOrder
-roleOf (C.LowOn v) = other
-roleOf (C.HighOn v) = other
-roleOf (C.Position k) = other
-roleOf C.Everything = other
-roleOf C.Inputs = other
+roleOf (C.Order code) = cond (eqb code 9) stopOrder (cond (eqb code 11) resetOrder other)
 roleOf (C.Outputs v) = other
+roleOf (C.Read r) = other
 
 abbrev pub roleBy : Outcome → Role
 roleBy untaken = other

@@ -9,7 +9,7 @@ use lib.Dec.{eqb}
 use lib.IntN.{negsuc, natAbs}
 use lib.ListN.{getD}
 use Rattle.laws.specs.Axes.{some, each}
-use Rattle.line.specs.declared.Command.the-variants as C
+use Rattle.line.specs.declared.command.Command.the-variants as C
 use Rattle.line.specs.declared.Judged.the-variants.{Accepted}
 use Rattle.line.specs.Line.{judgeOf}
 use Rattle.machine.specs.State.{Machine}
@@ -90,7 +90,7 @@ pub record Marked : Type 0 where
   pub steepFirst : firstPulse 156 steep ≡ 156
   pub gentleFirst : firstPulse 2500 gentle ≡ 2500
   -- speed F4240 taken, F4241 is 10
-  pub speedRead : judgeOf (chars "P08F4240") ≡ Accepted (C.Speed 1000000) 0x8F4240
+  pub speedRead : judgeOf (chars "P08F4240") ≡ Accepted (C.Set 8 1000000) 0x8F4240
   pub speedTaken : told (powerOn 0) "P08F4240" .machine .settings .speed ≡ 1000000
   pub speedOver : told (powerOn 0) "P08F4241" .number ≡ 10
   -- position -1 reads FFFFF (negsuc 0 is -1)

@@ -4,7 +4,7 @@ use mathlib.Core.Bool.{Bool, cond}
 use mathlib.Core.List.{List, []}
 use lib.IntN.{ℤ}
 use Rattle.digits.specs.declared.Ident.{Ident}
-use Rattle.line.specs.declared.Command.{Command}
+use Rattle.line.specs.declared.command.Command.{Command}
 use Rattle.reply.specs.Reply.{Told, travelDigits, twenty, replyOf, refusalOf}
 use Rattle.machine.specs.State.{Machine}
 use Rattle.machine.specs.Stops.{status}

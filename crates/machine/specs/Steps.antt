@@ -7,7 +7,7 @@ use lib.IntN.{ℤ, pos}
 use lib.ListN.{length}
 use Rattle.digits.specs.declared.Ident.{Ident}
 use Rattle.block.specs.Block.{over}
-use Rattle.line.specs.declared.Command.{Command}
+use Rattle.line.specs.declared.command.Command.{Command}
 use Rattle.line.specs.declared.Judged.{Judged}
 use Rattle.line.specs.declared.Judged.the-variants.{Accepted, Refused}
 use Rattle.receiver.specs.declared.Heard.{Heard}
