@@ -17,6 +17,7 @@ use borrow.Author.Tests.{lt-ltb, le-ltb, ltb-true, ltb-false, le-leb, leb-true, 
 use lib.Dec.{ltb, leb}
 use lib.IntN.{ℤ, pos, _+ℤ_, +ℤ-idr}
 use Rattle.laws.specs.Axes.{directed}
+use Rattle.laws.proofs.Directed.{no-step}
 use Rattle.reply.specs.Reply.{bias}
 use Rattle.machine.specs.Starts.{outside}
 use Rattle.machine.proofs.ShareLaws.{Share, share-grows, share-once}
@@ -90,11 +91,7 @@ module _ (d M m t : ℕ) (p : m < M) (s : Share d M m t) where
             λ i. record { 0 = e i }
 
     rested-is : z ≡ z +ℤ directed minus 0
-    rested-is = sym (ap (λ (y : ℤ). z +ℤ y) (none minus) ∙ +ℤ-idr z)
-      where
-        none : (b : Bool) → directed b 0 ≡ pos 0
-        none true = refl
-        none false = refl
+    rested-is = sym (ap (λ (y : ℤ). z +ℤ y) (no-step minus) ∙ +ℤ-idr z)
 
     pub axis-is : axisStepGiven (shareStepOf (m * d % M) d M) (record { 0 = t }) (record { 0 = bias z }) minus
         ≡ axisAfter

@@ -1,7 +1,7 @@
 -- Lines: what they do to a held machine is the held machine's step, and so are their numbers and replies. Assumes
 -- nothing.
 use Prim.Native.Nat.{ℕ, _+_, _-_, _%_, _<_}
-use mathlib.Core.Bool.{Bool, true, false, cond, _&&_, _||_}
+use mathlib.Core.Bool.{Bool, true, false, cond, _&&_, _||_, or-true, or-false}
 use mathlib.Core.Path.{_≡_, refl, sym, ap, _∙_}
 use native.Mathlib.Omega.{arith}
 use native.Mathlib.Nat.{mod-eq-of-lt}
@@ -41,7 +41,7 @@ use Rattle.controller.specs.Inner.Orders.{
   obeyStartStored,
 }
 use Rattle.controller.specs.Inner.Told.{statusGiven, statusOf, readingsOf}
-use Rattle.controller.proofs.TickLaws.{each-at, or-true, or-false}
+use Rattle.controller.proofs.TickLaws.{each-at}
 use Rattle.controller.proofs.StartLaws.{start-is, begun-is}
 
 -- ---- Effects

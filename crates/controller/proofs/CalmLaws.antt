@@ -6,6 +6,7 @@ use native.Mathlib.Omega.{arith}
 use borrow.Author.Tests.{eqb-true}
 use lib.Bits.{bitAnd, and-step, and-shr}
 use lib.Dec.{ltb, eqb}
+use Rattle.laws.proofs.Tests.{both}
 use Rattle.inputs.specs.Inputs.{blockedAt, someBlocked}
 use Rattle.inputs.proofs.Laws.{or-right, blocked-down}
 use Rattle.controller.specs.Inner.Watch.{isCalmOf}
@@ -60,14 +61,10 @@ free low high inputs distance minus p q =
     second : (x y : ℕ) → x % 4 ≡ y % 4 → x / 2 % 2 ≡ y / 2 % 2
     second x y e = omega arith
 
-and-both : (a b : Bool) → a && b ≡ true → (a ≡ true) × (b ≡ true)
-and-both true b e = (refl, e)
-and-both false b e = (e, absurd (let z : _≡_ {A = ℕ} 0 1 = ap (λ (x : Bool). cond x 1 0) e in omega arith))
-
 pub calm-free : (low high inputs : ℕ) (distance : ℕ → ℕ) (minus : ℕ → Bool) → isCalmOf low high inputs ≡ true
     → false ≡ someBlocked low high inputs distance minus
 calm-free low high inputs distance minus e =
-    let t = and-both (eqb (bitAnd high inputs % 1024) 0) (eqb (bitAnd low inputs % 1024) (low % 1024)) e in
+    let t = both (eqb (bitAnd high inputs % 1024) 0) (eqb (bitAnd low inputs % 1024) (low % 1024)) e in
     let p = eqb-true (bitAnd high inputs % 1024) 0 (t .0) in
     let q = eqb-true (bitAnd low inputs % 1024) (low % 1024) (t .1) in
     let h2 = and-shr high inputs 2 in

@@ -4,12 +4,12 @@ use mathlib.Core.Bool.{Bool, true, false}
 use mathlib.Core.Path.{_≡_, refl, sym, ap, _∙_}
 use native.Mathlib.Omega.{arith}
 use native.Mathlib.Nat.{mod-lt}
+use Rattle.laws.proofs.Tests.{true-false}
 use Rattle.reply.specs.Reply.{bias}
 use Rattle.reply.specs.declared.Travel.{Travel}
 use Rattle.reply.specs.declared.Position.{Position}
 use Rattle.machine.specs.State.{Machine}
 use Rattle.machine.specs.Shares.{whole, gone}
-use Rattle.machine.proofs.RunLaws.{true-false}
 use Rattle.machine.proofs.PositionLaws.{Room}
 use Rattle.machine.proofs.FitLaws.{Fits}
 use Rattle.controller.specs.Held.{heldSettings, heldPlan, heldCounters, heldHot}

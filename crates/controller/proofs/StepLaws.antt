@@ -1,6 +1,6 @@
 -- What the code of a tick of a move answers, from what its parts answer, over plain values. Assumes nothing.
 use Prim.Native.Nat.{ℕ, _+_, _-_, _%_, _≤_, _<_}
-use mathlib.Core.Bool.{Bool, true, false, cond, _&&_}
+use mathlib.Core.Bool.{Bool, true, false}
 use mathlib.Core.Path.{_≡_, refl, sym, ap, _∙_}
 use native.Mathlib.Omega.{arith}
 use native.Mathlib.Nat.{mod-eq-of-lt, mod-eq-sub-mod}
@@ -171,9 +171,3 @@ fires-moving s r p e f = when (r .moving) (sym (ap (λ (x : Paced). x .fires) e)
 pub axes-fit : (s : Settings) (h : Hot) (p : Paced) → p ≡ paceOf s (h .run) → RunFits s h → (k : ℕ) → k < 5
     → (k < 5) × AxisStepFits (p .fires) (h .plan) (h .counters) (h .run .length) k
 axes-fit s h p e f k l = (l, λ q. f .axes (fires-moving s (h .run) p e q) k l)
-
--- ---- Tests
-
-pub and-second : (a b : Bool) → a && b ≡ true → b ≡ true
-and-second true b e = e
-and-second false b e = absurd (let z : _≡_ {A = ℕ} 0 1 = ap (λ (x : Bool). cond x 1 0) e in omega arith)

@@ -1,7 +1,7 @@
 -- Inputs taken, stops begun, words at rest: done to what is held of a machine, they are the machine's own steps, held.
 -- Assumes nothing.
 use Prim.Native.Nat.{ℕ, _<_}
-use mathlib.Core.Bool.{Bool, true, false, cond, _&&_, _||_}
+use mathlib.Core.Bool.{Bool, true, false, cond, _&&_, _||_, or-true, or-false}
 use mathlib.Core.Path.{_≡_, refl, ap, _∙_}
 use native.Mathlib.Omega.{arith}
 use lib.Dec.{ltb, leb}
@@ -12,7 +12,8 @@ use Rattle.laws.proofs.BitLaws.{test-odd}
 use Rattle.laws.proofs.Five.{five}
 use Rattle.laws.proofs.Pick.{by-bool}
 use Rattle.outputs.specs.Outputs.{generalOf}
-use Rattle.outputs.proofs.Words.{word-rest, word-still, small}
+use Rattle.outputs.proofs.Words.{word-rest, word-still}
+use Rattle.outputs.proofs.Small.{small}
 use Rattle.machine.specs.State.{Machine, withMove, withFlags}
 use Rattle.machine.specs.Stops.{takes, stops, stopping, marks, blocked, sensorActive, watchFull, limitOrWatch}
 use Rattle.machine.specs.Outputs.{word}
@@ -38,14 +39,6 @@ takes-is m w = λ i.
     (heldHot m .wires .cells)
 
 -- ---- Stops
-
-pub or-false : (b : Bool) → b || false ≡ b
-or-false true = refl
-or-false false = refl
-
-pub or-true : (b : Bool) → b || true ≡ true
-or-true true = refl
-or-true false = refl
 
 module _ (m : Machine) where
   limit-is : limitOrWatchOf (heldSettings (m .settings)) (heldPlan (m .move .plan)) (m .inputs) (m .watch)

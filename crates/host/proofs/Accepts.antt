@@ -1,11 +1,12 @@
 -- Each command that fits, as the controller judges the letter and digits of its line: accepted as that very command.
 -- Assumes nothing.
-use Prim.Native.Nat.{ℕ, _+_, _*_, _/_, _%_, _≤_, _<_}
+use Prim.Native.Nat.{ℕ, _+_, _/_, _%_, _≤_, _<_}
 use native.Mathlib.Omega.{arith}
-use mathlib.Core.Bool.{Bool, true, false, _&&_, false≢true}
+use mathlib.Core.Bool.{Bool, true, false, false≢true}
 use mathlib.Core.Path.{_≡_, refl, sym}
 use borrow.Author.Tests.{lt-ltb, le-leb, lt-leb, eqb-true}
 use lib.Dec.{eqb}
+use Rattle.laws.proofs.Tests.{both}
 use Rattle.line.specs.declared.Command.{Command}
 use Rattle.line.specs.declared.Command.the-variants as C
 use Rattle.line.specs.declared.Judged.the-variants.{Accepted}
@@ -116,12 +117,8 @@ accept-outputs v = refl
 
 -- Input settings have no bit from 14 on.
 pub bits-low : (v : ℕ) → inputBits v ≡ true → v < 16384
-bits-low v e = small (eqb-true (v / 16384) 0 (first (eqb (v / 16384) 0) (eqb (v / 1024 % 4) 0) e))
+bits-low v e = small (eqb-true (v / 16384) 0 (both (eqb (v / 16384) 0) (eqb (v / 1024 % 4) 0) e .0))
   where
-    first : (a b : Bool) → (a && b) ≡ true → a ≡ true
-    first true b e = refl
-    first false b e = absurd (false≢true e)
-
     small : v / 16384 ≡ 0 → v < 16384
     small h = omega arith
 

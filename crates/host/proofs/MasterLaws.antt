@@ -2,7 +2,7 @@
 use Prim.Native.Nat.{ℕ, zero, suc, _≤_, _<_}
 use native.Mathlib.Omega.{arith}
 use native.Mathlib.Nat.{lt-of-lt-of-le}
-use mathlib.Core.Bool.{Bool, true, false, _||_, false≢true}
+use mathlib.Core.Bool.{Bool, true, false, false≢true}
 use mathlib.Core.List.{List}
 use mathlib.Core.Path.{_≡_, refl, sym, subst, _∙_}
 use borrow.Author.Tests.{le-ltb, ltb-true, ltb-false, leb-true, leb-false, not-true, not-false}
@@ -11,6 +11,7 @@ use lib.ListN.{getD}
 use Rattle.laws.specs.Axes.{some}
 use Rattle.laws.proofs.Five.{five}
 use Rattle.laws.proofs.Pick.{by-bool}
+use Rattle.laws.proofs.Some.{none-of}
 use Rattle.host.specs.Master.{isLongest, masterOf, Longest}
 
 -- ---- tests of the five axes
@@ -42,18 +43,6 @@ found f e = first (f 0) refl
     first true p = record { axis = 0; low = omega arith; has = p }
     first false p = next (f 1) refl p
 
-both-false : (a b : Bool) → (a || b) ≡ false → (a ≡ false) × (b ≡ false)
-both-false true b e = absurd (false≢true (sym e))
-both-false false b e = (refl, e)
-
-none-found : (f : ℕ → Bool) → some f ≡ false → (k : ℕ) → k < 5 → f k ≡ false
-none-found f e =
-    let p = both-false (f 0 || f 1 || f 2 || f 3) (f 4) e in
-    let q = both-false (f 0 || f 1 || f 2) (f 3) (p .0) in
-    let r = both-false (f 0 || f 1) (f 2) (q .0) in
-    let s = both-false (f 0) (f 1) (r .0) in
-    five (λ (k : ℕ). f k ≡ false) (s .0) (s .1) (r .1) (q .1) (p .1)
-
 -- ---- longest, by the test and by the lengths
 
 module _ (d : List ℕ) where
@@ -63,7 +52,7 @@ module _ (d : List ℕ) where
   over : (k : ℕ) → isLongest d k ≡ true → Over k
   over k e j h =
       ltb-false (getD d k 0) (getD d j 0)
-      (none-found (λ (i : ℕ). ltb (getD d k 0) (getD d i 0))
+      (none-of (λ (i : ℕ). ltb (getD d k 0) (getD d i 0))
       (not-true (some (λ i. ltb (getD d k 0) (getD d i 0))) e) j h)
 
   is-over : (k : ℕ) → Over k → isLongest d k ≡ true

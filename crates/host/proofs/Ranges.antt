@@ -2,27 +2,19 @@
 -- command that the controller accepts has a line. Assumes nothing.
 use Prim.Native.Nat.{ℕ, _≤_, _<_}
 use native.Mathlib.Omega.{arith}
-use mathlib.Core.Bool.{Bool, true, false, _&&_, false≢true}
+use mathlib.Core.Bool.{true}
 use mathlib.Core.List.{List}
 use mathlib.Core.Path.{_≡_, refl, subst}
-use borrow.Author.Tests.{lt-ltb, le-leb, ltb-true, leb-true}
-use lib.Dec.{ltb, leb}
+use borrow.Author.Tests.{lt-ltb, le-leb, ltb-true}
+use lib.Dec.{ltb}
+use Rattle.laws.proofs.Tests.{both}
 use Rattle.line.specs.declared.Command.{Command}
 use Rattle.line.specs.declared.Command.the-variants as C
 use Rattle.line.specs.declared.Judged.the-variants.{Accepted}
 use Rattle.line.specs.Line.{isWithin, judgeOf}
 use Rattle.line.specs.Fits.{CommandFits, AcceptedFits, JudgedFits}
-use Rattle.line.proofs.Fits.{judge-fits}
+use Rattle.line.proofs.Fits.{within, judge-fits}
 use Rattle.host.specs.Writer.{inRange}
-
-pub both : (a b : Bool) → (a && b) ≡ true → (a ≡ true) × (b ≡ true)
-both true b e = (refl, e)
-both false b e = absurd (false≢true e)
-
-pub within : (n low high : ℕ) → isWithin n low high ≡ true → (low ≤ n) × (n ≤ high)
-within n low high e =
-    let t = both (leb low n) (leb n high) e in
-    (leb-true low n (t .0), leb-true n high (t .1))
 
 is-within : (n low high : ℕ) → low ≤ n → n ≤ high → isWithin n low high ≡ true
 is-within n low high h k = rw (le-leb low n h) (le-leb n high k)

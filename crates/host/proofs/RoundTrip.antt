@@ -10,10 +10,11 @@ use borrow.Author.Tests.{ne-eqb, ltb-false}
 use lib.Dec.{ltb, eqb}
 use lib.ListN.{length, length-append}
 use Rattle.laws.proofs.Pick.{by-lt, by-bool}
+use Rattle.laws.proofs.Tests.{both}
 use Rattle.digits.specs.Digits.{digitOf, capitalOf, sixOf, numberOf}
 use Rattle.digits.specs.declared.Ident.{Ident}
 use Rattle.digits.specs.declared.Ident.the-variants.{Absent, Given}
-use Rattle.digits.proofs.Laws.{six-number}
+use Rattle.digits.proofs.Six.{six-number}
 use Rattle.block.specs.Block.{blockOf, over, frontOf}
 use Rattle.block.proofs.Blocks.{block-most}
 use Rattle.block.proofs.Buffers.{front-over}
@@ -44,7 +45,7 @@ use Rattle.host.specs.Writer.{
 }
 use Rattle.host.specs.RoundTrip.{heardAll, endedAfter, heardAs}
 use Rattle.host.proofs.Accepts.{accepts, digits-fit}
-use Rattle.host.proofs.Ranges.{both, range-fits}
+use Rattle.host.proofs.Ranges.{range-fits}
 
 -- ---- characters up to the 0D
 
@@ -207,7 +208,7 @@ module _ (c : Command) (fits : CommandFits c) (full : isQuery c ≡ false) where
     heard = named-line silent x e;
   }
 
-absent-is : (ident : Ident) → isAbsent ident ≡ true → ident ≡ Absent
+pub absent-is : (ident : Ident) → isAbsent ident ≡ true → ident ≡ Absent
 absent-is Absent e = refl
 absent-is (Given x) e = absurd (false≢true e)
 

@@ -2,3 +2,5 @@ pub mod Pick
 pub mod Five
 pub mod BitLaws
 pub mod Some
+pub mod Tests
+pub mod Directed

@@ -10,7 +10,7 @@ use Rattle.laws.proofs.Pick.{by-bool, by-eq}
 use Rattle.digits.specs.Digits.{sixDigits, numberOf, Under}
 use Rattle.digits.specs.declared.Number.{Number}
 use Rattle.digits.specs.declared.Number.the-variants.{NotDigits, Value}
-use Rattle.digits.proofs.Laws.{under-six}
+use Rattle.digits.proofs.Six.{under-six}
 use Rattle.line.specs.declared.command.Command.{Command}
 use Rattle.line.specs.declared.row.Row.{Row}
 use Rattle.line.specs.declared.row.Row.the-variants.{Unlisted, Listed}

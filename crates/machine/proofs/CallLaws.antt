@@ -9,6 +9,7 @@ use lib.Dec.{ltb, leb, eqb}
 use lib.IntN.{ℤ, pos, _+ℤ_, +ℤ-idr, natAbs}
 use lib.ListN.{length}
 use Rattle.laws.specs.Axes.{some, directed}
+use Rattle.laws.proofs.Tests.{true-false}
 use Rattle.laws.proofs.Pick.{by-bool}
 use Rattle.laws.proofs.Five.{five}
 use Rattle.digits.specs.declared.Ident.{Ident}
@@ -89,7 +90,7 @@ use Rattle.machine.specs.List.{
 }
 use Rattle.machine.proofs.BitLaws.{status-moving}
 use Rattle.machine.proofs.ShareLaws.{share-none}
-use Rattle.machine.proofs.RunLaws.{Good, Whole, Runs, runs-is, true-false, no-pulse}
+use Rattle.machine.proofs.RunLaws.{Good, Whole, Runs, runs-is, no-pulse}
 
 -- A call on m that is to the list the line L, the start S and the stop P (t: it is a tick), answers z and leaves a.
 pub record Called (m : Machine) (L : Role) (S : Tried) (P t : Bool) (z : ℕ → ℤ) (a : Machine) : Type 0 where

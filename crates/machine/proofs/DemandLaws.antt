@@ -9,6 +9,7 @@ use lib.IntN.{ℤ, pos, _+ℤ_}
 use Rattle.machine.specs.State.{Machine, Pause}
 use Rattle.machine.specs.Shares as shares
 use Rattle.laws.specs.Axes.{directed}
+use Rattle.laws.proofs.Tests.{true-false, both, neither, either, second}
 use Rattle.machine.specs.Steps.{Tried, untried, failed, began}
 use Rattle.machine.specs.Calls.{Call, after, run, state}
 use Rattle.machine.specs.List.{
@@ -49,7 +50,7 @@ use Rattle.machine.specs.List.{
 use Rattle.machine.specs.Demand.{ShareLaw, Answer, Ended, Demand3}
 use Rattle.machine.proofs.BitLaws.{status-moving}
 use Rattle.machine.proofs.ShareLaws.{Share, share-none}
-use Rattle.machine.proofs.RunLaws.{Good, Whole, true-false, and-first}
+use Rattle.machine.proofs.RunLaws.{Good, Whole}
 use Rattle.machine.proofs.CallLaws.{Called, called}
 use Rattle.machine.proofs.PauseLaws.{pause-next, dwell-next}
 use Rattle.machine.proofs.FitLaws.{fits}
@@ -110,14 +111,6 @@ same-start untried f g x y p q = q
 same-start (failed n) f g x y p q = q
 same-start (began j) f g x y p q = p j
 
-or-split : {A : Type 0} (a b : Bool) → a || b ≡ true → (a ≡ true → A) → (a ≡ false → b ≡ true → A) → A
-or-split true b e f g = f refl
-or-split false b e f g = g refl e
-
-or-none : (a b : Bool) → a || b ≡ false → (a ≡ false) × (b ≡ false)
-or-none true b e = true-false true refl e
-or-none false b e = (refl, e)
-
 same-stop : (P B X Y : Bool) → (B ≡ false → X ≡ Y) → P || (not B && X) ≡ P || (not B && Y)
 same-stop P true X Y h = refl
 same-stop P false X Y h = ap (λ (b : Bool). P || b) (h refl)
@@ -126,10 +119,6 @@ old-start : {A : Type 0} (S : Tried) (f : ℕ → A) (x : A) → begins S ≡ fa
 old-start untried f x e = refl
 old-start (failed n) f x e = refl
 old-start (began j) f x e = true-false true refl e
-
-second-of : (a b : Bool) → a || b ≡ true → a ≡ false → b ≡ true
-second-of true b e f = true-false true refl f
-second-of false b e f = e
 
 by-flag : {A : Type 0} (b : Bool) → (b ≡ true → A) → (b ≡ false → A) → A
 by-flag true f g = f refl
@@ -143,7 +132,7 @@ whole-end : (s : ℕ) (h : List Call) (x : Call) → Told s h
 whole-end s h x t b e f = by-flag (isTick x)
     (λ i. c .ending i b e
     (same-stop (stopsIn (state s h) x) (begins (effect s h x)) _ _
-    (λ n. t .stops (second-of (begins (effect s h x)) (state s h .move .moving) b n)) ∙ f))
+    (λ n. t .stops (second (begins (effect s h x)) (state s h .move .moving) b n)) ∙ f))
     (λ i. true-false (after (state s h) x .move .moving)
     (c .goes ∙ (λ j. b j && (not (i j) || after (state s h) x .move .moving))) e)
   where
@@ -165,13 +154,13 @@ told-next s h x t = record {
   sums = λ k. c .sum k ∙ ap (λ (z : ℤ). cond (resetBy L) (pos 0) (z +ℤ sent m x k)) (t .sums k);
   goes = c .goes ∙ (λ i. (begins S || t .goes i) && (not (isTick x) || sym (status-moving (after m x)) i));
   stops = λ q. c .stopped q ∙ stop q;
-  positive = λ q. or-split (begins S) (started s h) q (λ b. c .positive b)
+  positive = λ q. either (begins S) (started s h) q (λ b. c .positive b)
       (λ b u. subst (λ (n : ℕ). 0 < n) (sym (size b)) (t .positive u));
   rest = λ q e f k l. by-flag (begins S || state s h .move .moving)
       (λ b. whole-end s h x t b e f .there k l)
-      (λ b. let n = or-none (begins S) (state s h .move .moving) b in
+      (λ b. let n = neither (begins S) (state s h .move .moving) b in
       c .idle (n .0) (n .1) k l
-      ∙ (t .rest (second-of (begins S) (started s h) q (n .0)) (n .1) (unstopped (n .0) f) k l ∙ sym (kept (n .0) k)));
+      ∙ (t .rest (second (begins S) (started s h) q (n .0)) (n .1) (unstopped (n .0) f) k l ∙ sym (kept (n .0) k)));
 }
   where
     m : Machine
@@ -190,8 +179,8 @@ told-next s h x t = record {
         → stopsIn (state s h) x || (not (begins (effect s h x)) && state s h .move .stopping)
         ≡ stopsIn (state s h) x || (not (begins (effect s h x)) && stopBegun s h)
     stop q = same-stop (stopsIn (state s h) x) (begins (effect s h x)) _ _
-        (λ b. t .stops (second-of (begins (effect s h x)) (state s h .move .moving)
-        (and-first _ _ (sym (c .goes) ∙ q)) b))
+        (λ b. t .stops (second (begins (effect s h x)) (state s h .move .moving)
+        (both _ _ (sym (c .goes) ∙ q) .0) b))
 
     kept : begins (effect s h x) ≡ false → (k : ℕ)
         → after (state s h) x .move .plan .distance k ≡ state s h .move .plan .distance k
@@ -206,7 +195,7 @@ told-next s h x t = record {
         → stopsIn (state s h) x || (not (begins (effect s h x)) && stopBegun s h) ≡ false → stopBegun s
         h ≡ false
     unstopped b f =
-        let n = or-none (stopsIn (state s h) x) _ f in
+        let n = neither (stopsIn (state s h) x) _ f in
         subst (λ (w : Bool). not w && stopBegun s h ≡ false) b (n .1)
 
 told : (s : ℕ) (h : List Call) → Told s h
@@ -254,18 +243,14 @@ answer-holds s (x ∷ h) k l =
       sign = λ q. c .sign k l q ∙ ap (λ (b : Bool). directed b 1) (told s (x ∷ h) .minuses k);
     }
 
-and-parts : (a b : Bool) → a && b ≡ true → (a ≡ true) × (b ≡ true)
-and-parts true b e = (refl, e)
-and-parts false b e = true-false false e refl
-
 ending-holds : (s : ℕ) (h : List Call) (k : ℕ) → k < 5 → ends s h ≡ true → stopBegun s h ≡ false → Ended s h k
 unfolding latest run ends stopBegun
 ending-holds s [] k l e f = true-false false e refl
 ending-holds s (x ∷ h) k l e f =
     let t = told s h in
     let u = told s (x ∷ h) in
-    let p = and-parts (isTick x) _ e in
-    let q = and-parts (begins (effect s h x) || goesOn s h) _ (p .1) in
+    let p = both (isTick x) _ e in
+    let q = both (begins (effect s h x) || goesOn s h) _ (p .1) in
     let w = whole-end s h x t
     ((λ i. begins (effect s h x) || t .goes i) ∙ q .0)
     (sym (status-moving (after (state s h) x)) ∙ not-true (moves (after (state s h) x)) (q .1)) f in

@@ -12,6 +12,7 @@ use lib.Dec.{ltb, leb, eqb}
 use lib.IntN.{ℤ, pos, _+ℤ_, +ℤ-idr}
 use lib.ListN.{length}
 use Rattle.laws.specs.Axes.{directed}
+use Rattle.laws.proofs.Tests.{true-false}
 use Rattle.laws.proofs.Pick.{by-bool, by-lt, by-le, by-eq}
 use Rattle.digits.specs.declared.Ident.{Ident}
 use Rattle.line.specs.declared.command.Command.{Command}
@@ -82,7 +83,7 @@ use Rattle.machine.specs.Steps.{
 }
 use Rattle.machine.specs.Calls.{Call, byte, tick, after, run, state}
 use Rattle.machine.proofs.ShareLaws.{share-none, share-grows, share-once}
-use Rattle.machine.proofs.RunLaws.{Good, step-pulse, runs-step, runs-end, true-false}
+use Rattle.machine.proofs.RunLaws.{Good, step-pulse, runs-step, runs-end}
 use Rattle.machine.proofs.PositionLaws.{Room, lies, leaves-is, room-of}
 use Rattle.machine.proofs.PositionLaws as places
 use Rattle.machine.proofs.CallLaws.{passed, Ready, ready, good-new}

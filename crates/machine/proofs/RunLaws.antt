@@ -10,6 +10,7 @@ use lib.Dec.{ltb, leb, eqb}
 use lib.IntN.{ℤ, pos, _+ℤ_, +ℤ-idr, natAbs}
 use Rattle.laws.specs.Axes.{directed}
 use Rattle.laws.proofs.Pick.{by-bool}
+use Rattle.laws.proofs.Tests.{true-false, both}
 use Rattle.machine.specs.State.{Move, Machine, withMove}
 use Rattle.machine.specs.Shares.{whole, gone, share, pulse}
 use Rattle.machine.specs.Ramp.{Ran, ended, atSpeed, stepped, pulsed, advanced, ramped, runs, full}
@@ -56,14 +57,6 @@ pub record Runs (m : Machine) (z : ℕ → ℤ) (a : Machine) : Type 0 where
 
 pub no-pulse : (t : ℕ) → t ≡ t + isPulse (pos 0)
 no-pulse t = omega arith
-
-pub true-false : {A : Type 0} (b : Bool) → b ≡ true → b ≡ false → A
-true-false true p q = absurd (let z : _≡_ {A = ℕ} 1 0 = ap (λ (b : Bool). cond b 1 0) q in omega arith)
-true-false false p q = absurd (let z : _≡_ {A = ℕ} 0 1 = ap (λ (b : Bool). cond b 1 0) p in omega arith)
-
-pub and-first : (a b : Bool) → a && b ≡ true → a ≡ true
-and-first true b e = refl
-and-first false b e = e
 
 -- The four ends
 module _ (m : Machine) (g : Good (m .move)) where
@@ -238,6 +231,6 @@ module _ (m : Machine) (g : Good (m .move)) where
       (λ q. runs-rest (not-true (m .move .moving) q))
       (λ q. by-bool (λ (r : Ran). Runs m (r .pulse) (r .machine))
       (m .move .stopping && leb (m .move .speed) (m .settings .slope)) _ _
-      (λ s. runs-halt (not-false (m .move .moving) q) (and-first (m .move .stopping) _ s))
+      (λ s. runs-halt (not-false (m .move .moving) q) (both (m .move .stopping) _ s .0))
       (λ s. runs-on (not-false (m .move .moving) q) (ramped (m .settings) (m .move))
       (m .move .phase + ramped (m .settings) (m .move))))

@@ -18,6 +18,7 @@ use lib.Dec.{ltb}
 use lib.IntN.{ℤ, pos, natAbs}
 use Rattle.laws.proofs.Pick.{by-lt}
 use Rattle.laws.specs.Axes.{directed}
+use Rattle.laws.proofs.Directed.{no-step}
 use Rattle.machine.specs.List.{isPulse}
 
 -- The exact share, multiplied out: t × M ≤ m × d < (t + 1) × M, and no axis is longer than the master.
@@ -62,11 +63,7 @@ pub pulse-is : (t n : ℕ) (s : Bool) → t ≤ n → n ≤ t + 1
     → directed s (n - t) ≡ cond (ltb t n) (directed s 1) (pos 0)
 pulse-is t n s h k =
     by-lt (λ (z : ℤ). directed s (n - t) ≡ z) t n _ _ (λ q. ap (directed s) (omega arith))
-    (λ q. ap (directed s) (omega arith) ∙ none s)
-  where
-    none : (b : Bool) → directed b 0 ≡ pos 0
-    none true = refl
-    none false = refl
+    (λ q. ap (directed s) (omega arith) ∙ no-step s)
 
 -- A pulse as the difference of two travels.
 pub pulse-counts : (t n : ℕ) (s : Bool) → t ≤ n → n ≤ t + 1

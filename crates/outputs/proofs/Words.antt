@@ -1,18 +1,14 @@
 -- A word is the sum of its parts: what the general outputs add, and for each axis what its lines add, at rest or
--- while it pulses. Every part is small and every word has 24 bits. Assumes nothing.
+-- while it pulses. Assumes nothing.
 use Prim.Native.Nat.{ℕ, _+_, _*_, _/_, _%_, _^_, _≤_, _<_}
-use mathlib.Core.Bool.{Bool, true, false, not, cond, _&&_}
-use mathlib.Core.List.{List}
-use mathlib.Core.Path.{_≡_, refl, sym, ap, subst, _∙_}
-use native.Mathlib.Nat.{pow-le-pow-left}
+use mathlib.Core.Bool.{Bool, true, false, cond, and-false}
+use mathlib.Core.Path.{_≡_, ap, _∙_}
 use native.Mathlib.Omega.{arith}
 use lib.Dec.{ltb, eqb, lit≤, lit<}
 use lib.IntN.{ℤ, pos}
-use lib.ListN.{getD}
-use Rattle.laws.specs.Axes.{each, directed}
+use Rattle.laws.specs.Axes.{directed}
 use Rattle.laws.specs.Bits.{bit, weigh}
-use Rattle.laws.proofs.BitLaws.{weigh-bits, weigh-lt, weigh-mixed, weight-le}
-use Rattle.laws.proofs.Pick.{by-bool}
+use Rattle.laws.proofs.BitLaws.{weigh-bits, weigh-lt, weigh-mixed}
 use Rattle.outputs.specs.Outputs.{xor, hasDirection, line, narrowBit, wideBit, wordOf}
 use Rattle.outputs.specs.Outputs.{generalOf, pairOf, inversesOf, linesOf, cellOf, restOf, fireOf}
 
@@ -91,10 +87,6 @@ pub word-rest : (s q o : ℕ) (minus : ℕ → Bool) (p : ℕ → ℤ) → wordO
 unfolding restOf
 word-rest s q o minus p = word-cells s q o minus p false
 
-and-false : (d : Bool) → d && false ≡ false
-and-false true = refl
-and-false false = refl
-
 -- In a first half an axis without a pulse adds what it adds at rest.
 idle-cell : (s q : ℕ) (minus : ℕ → Bool) (k : ℕ) → cellOf s q (minus k) (pos 0) true k ≡ restOf s q minus k
 unfolding restOf
@@ -141,109 +133,7 @@ pub word-still : (s q o : ℕ) (minus : ℕ → Bool) (p : ℕ → ℤ) → ((k 
     + (restOf s q minus 0 + restOf s q minus 1 + restOf s q minus 2 + restOf s q minus 3 + restOf s q minus 4)
 word-still s q o minus p h = word-first s q o minus (λ k. false) p h
 
--- ---- bounds
-
+-- Every word has 24 bits.
 pub word-lt : (s q o : ℕ) (minus : ℕ → Bool) (p : ℕ → ℤ) (early : Bool) → wordOf s q o minus p early < 16777216
 unfolding wordOf
 word-lt s q o minus p early = weigh-lt 24 _
-
-pub general-le : (s o : ℕ) → generalOf s o ≤ 16777215
-general-le s o = by-bool (λ (x : ℕ). x ≤ 16777215) (ltb s 8) _ _ (λ e. omega arith) (λ e. omega arith)
-
-lines-le : (s : ℕ) (a b : Bool) (n m : ℕ) → n ≤ m → linesOf s a b n m ≤ 15 * m
-lines-le s a b n m h =
-    by-bool (λ (x : ℕ). x ≤ 15 * m) (ltb s 8) _ _
-    (λ e. omega (arith, weight-le a n, weight-le b (2 * n)))
-    (λ e. omega (arith, weight-le a m, weight-le (not a) (2 * m), weight-le b (4 * m), weight-le (not b) (8 * m)))
-
-cell-le : (s q : ℕ) (minus : Bool) (p : ℤ) (early : Bool) (k : ℕ) → cellOf s q minus p early k ≤ 15 * 16 ^ k
-cell-le s q minus p early k =
-    lines-le s (line s q minus p early k 0) (line s q minus p early k 1) (4 ^ k) (16 ^ k) (pow-le-pow-left (lit≤ tt) k)
-
-pub rest-le : (s q : ℕ) (minus : ℕ → Bool) (k : ℕ) → restOf s q minus k ≤ 15 * 16 ^ k
-unfolding restOf
-rest-le s q minus k = cell-le s q (minus k) (pos 0) false k
-
-pub fire-le : (s q : ℕ) (minus : ℕ → Bool) (k : ℕ) → fireOf s q minus k ≤ 15 * 16 ^ k
-unfolding fireOf
-fire-le s q minus k = cell-le s q (minus k) (directed (minus k) 1) true k
-
--- What each part of a word is at most, as `omega` reads it.
-pub record Small (s q o : ℕ) (minus : ℕ → Bool) : Type 0 where
-  pub general : generalOf s o ≤ 16777215
-  pub rest0 : restOf s q minus 0 ≤ 15
-  pub rest1 : restOf s q minus 1 ≤ 240
-  pub rest2 : restOf s q minus 2 ≤ 3840
-  pub rest3 : restOf s q minus 3 ≤ 61440
-  pub rest4 : restOf s q minus 4 ≤ 983040
-  pub fire0 : fireOf s q minus 0 ≤ 15
-  pub fire1 : fireOf s q minus 1 ≤ 240
-  pub fire2 : fireOf s q minus 2 ≤ 3840
-  pub fire3 : fireOf s q minus 3 ≤ 61440
-  pub fire4 : fireOf s q minus 4 ≤ 983040
-
-pub small : (s q o : ℕ) (minus : ℕ → Bool) → Small s q o minus
-small s q o minus = record {
-  general = general-le s o;
-  rest0 = rest-le s q minus 0;
-  rest1 = rest-le s q minus 1;
-  rest2 = rest-le s q minus 2;
-  rest3 = rest-le s q minus 3;
-  rest4 = rest-le s q minus 4;
-  fire0 = fire-le s q minus 0;
-  fire1 = fire-le s q minus 1;
-  fire2 = fire-le s q minus 2;
-  fire3 = fire-le s q minus 3;
-  fire4 = fire-le s q minus 4;
-}
-
--- ---- the parts as lists, as `axis_cells` gives them
-
-pub record SmallList (l : List ℕ) : Type 0 where
-  pub at0 : getD l 0 0 ≤ 15
-  pub at1 : getD l 1 0 ≤ 240
-  pub at2 : getD l 2 0 ≤ 3840
-  pub at3 : getD l 3 0 ≤ 61440
-  pub at4 : getD l 4 0 ≤ 983040
-
-small-each : (f : ℕ → ℕ) → ((k : ℕ) → f k ≤ 15 * 16 ^ k) → SmallList (each f)
-small-each f h = record {
-  at0 = h 0;
-  at1 = h 1;
-  at2 = h 2;
-  at3 = h 3;
-  at4 = h 4;
-}
-
-module _ (s q : ℕ) (minus : ℕ → Bool) where
-  pub rests-small : {rests : List ℕ} → rests ≡ each (restOf s q minus) → SmallList rests
-  rests-small e = subst SmallList (sym e) (small-each (restOf s q minus) (rest-le s q minus))
-
-  pub fires-small : {fires : List ℕ} → fires ≡ each (fireOf s q minus) → SmallList fires
-  fires-small e = subst SmallList (sym e) (small-each (fireOf s q minus) (fire-le s q minus))
-
-  module _ (o : ℕ) (p : ℕ → ℤ) {g : ℕ} {rests : List ℕ} (general : g ≡ generalOf s o)
-      (resting : rests ≡ each (restOf s q minus)) where
-    pub rest-sum : g + (getD rests 0 0 + getD rests 1 0 + getD rests 2 0 + getD rests 3 0 + getD rests 4 0)
-        ≡ wordOf s q o minus p false
-    rest-sum =
-        (λ i. general i
-        + (getD (resting i) 0 0 + getD (resting i) 1 0 + getD (resting i) 2 0 + getD (resting i) 3 0
-        + getD (resting i) 4 0))
-        ∙ sym (word-rest s q o minus p)
-
-    pub first-sum : (on : ℕ → Bool) → ((k : ℕ) → k < 5 → p k ≡ cond (on k) (directed (minus k) 1) (pos 0))
-        → {fires : List ℕ} → fires ≡ each (fireOf s q minus)
-        → g
-        + (cond (on 0) (getD fires 0 0) (getD rests 0 0) + cond (on 1) (getD fires 1 0) (getD rests 1 0)
-        + cond (on 2) (getD fires 2 0) (getD rests 2 0) + cond (on 3) (getD fires 3 0) (getD rests 3 0)
-        + cond (on 4) (getD fires 4 0) (getD rests 4 0))
-        ≡ wordOf s q o minus p true
-    first-sum on h firing =
-        (λ i. general i
-        + (cond (on 0) (getD (firing i) 0 0) (getD (resting i) 0 0)
-        + cond (on 1) (getD (firing i) 1 0) (getD (resting i) 1 0)
-        + cond (on 2) (getD (firing i) 2 0) (getD (resting i) 2 0)
-        + cond (on 3) (getD (firing i) 3 0) (getD (resting i) 3 0)
-        + cond (on 4) (getD (firing i) 4 0) (getD (resting i) 4 0)))
-        ∙ sym (word-first s q o minus on p h)

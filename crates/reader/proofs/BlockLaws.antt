@@ -10,16 +10,18 @@ use Rattle.laws.proofs.Pick.{by-bool, by-lt, by-eq}
 use Rattle.digits.specs.Digits.{sixOf}
 use Rattle.digits.specs.declared.Ident.{Ident}
 use Rattle.digits.specs.declared.Ident.the-variants.{Absent, Given}
-use Rattle.digits.proofs.Laws.{digit-capital, six-number}
+use Rattle.digits.proofs.Laws.{digit-capital}
+use Rattle.digits.proofs.Six.{six-number}
 use Rattle.block.specs.Block.{blockOf}
 use Rattle.line.specs.declared.Command.{Command}
 use Rattle.line.specs.declared.Command.the-variants as C
 use Rattle.line.specs.declared.Judged.the-variants.{Accepted, Refused}
 use Rattle.line.specs.Line.{code, five, second, isWithin, inputBits, isMaster, formQ, judgeForm, judgeValue}
+use Rattle.line.proofs.Fits.{within}
 use Rattle.reply.specs.Reply.{coded, blockFor, travelDigits, twenty}
 use Rattle.machine.specs.Starts.{outside}
 use Rattle.host.specs.Writer.{isAbsent}
-use Rattle.host.proofs.Ranges.{within}
+use Rattle.host.proofs.RoundTrip.{absent-is}
 use Rattle.reader.specs.Reader.{
   verdict,
   travelled,
@@ -42,10 +44,6 @@ pub record EchoFits (n : ℕ) : Type 0 where
   pub echo : isEcho n ≡ true
 
 -- ---- tests and ranges
-
-absent-is : (ident : Ident) → isAbsent ident ≡ true → ident ≡ Absent
-absent-is Absent e = refl
-absent-is (Given x) e = absurd (false≢true e)
 
 -- The numbers of U, by the reader's test and by their ranges.
 pub is-verdict : (n : ℕ) (ident : Ident) → VerdictFits n ident → isVerdict n ident ≡ true

@@ -2,12 +2,13 @@
 -- Assumes nothing.
 use Prim.Native.Nat.{ℕ, _+_, _-_, _<_}
 use native.Mathlib.Omega.{arith}
-use mathlib.Core.Bool.{Bool, true, false, not, _&&_, _||_, false≢true}
+use mathlib.Core.Bool.{not, _&&_}
 use mathlib.Core.List.{List, [], _∷_}
 use mathlib.Core.Path.{_≡_, refl, sym, subst, _∙_}
 use borrow.Author.Tests.{ltb-false, eqb-false}
 use lib.Dec.{ltb, leb, eqb}
 use Rattle.laws.proofs.Pick.{by-bool}
+use Rattle.laws.proofs.Tests.{neither}
 use Rattle.line.specs.declared.Command.{Command}
 use Rattle.line.specs.declared.Command.the-variants as C
 use Rattle.machine.specs.State.{Machine}
@@ -61,14 +62,10 @@ kept-same m a k s = record {
 
 -- ---- power-on
 
-either-false : (a b : Bool) → (a || b) ≡ false → (a ≡ false) × (b ≡ false)
-either-false true b e = absurd (false≢true (sym e))
-either-false false b e = (refl, e)
-
 kept-power : (s : ℕ) → Kept (powerOn s)
 kept-power s = record {
   switch = by-bool SwitchFits (badSwitch s) 0 s (λ _. record { low = omega arith; other = λ e. omega arith })
-      (λ q. let t = either-false (ltb 15 s) (eqb s 12) q in
+      (λ q. let t = neither (ltb 15 s) (eqb s 12) q in
       let l = ltb-false 15 s (t .0) in
       record { low = omega arith; other = eqb-false s 12 (t .1) });
   inputs = omega arith;

@@ -16,7 +16,8 @@ use Rattle.digits.specs.declared.Number.{Number}
 use Rattle.digits.specs.declared.Number.the-variants.{NotDigits, Value}
 use Rattle.digits.specs.declared.Ident.{Ident}
 use Rattle.digits.specs.declared.Ident.the-variants.{Absent, Given}
-use Rattle.digits.proofs.Laws.{Tells, digit-tells, number-six, under-six}
+use Rattle.digits.proofs.Laws.{Tells, digit-tells}
+use Rattle.digits.proofs.Six.{number-six, under-six}
 use Rattle.block.specs.Block.{identChars, blockOf}
 use Rattle.line.specs.Line.{code, five, isIdent}
 use Rattle.reply.specs.Reply.{coded, blockFor, travelDigits, twenty}

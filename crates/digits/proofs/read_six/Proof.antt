@@ -7,7 +7,8 @@ use lib.ListN.{length, getD}
 use Rattle.digits.specs.declared.Number.{Number}
 use Rattle.digits.specs.declared.Number.the-variants.{Value}
 use Rattle.digits.specs.Digits.{Under, joinOf, numberOf}
-use Rattle.digits.proofs.Laws.{under-step, under-more, six-listed}
+use Rattle.digits.proofs.Laws.{under-step, under-more}
+use Rattle.digits.proofs.Six.{six-listed}
 use Rattle.digits.proofs.read_six.Statement.{statement}
 use Rattle.digits.proofs.read_six.Tie as tie
 

@@ -5,7 +5,7 @@ use native.Mathlib.Omega.{arith}
 use mathlib.Core.Path.{_≡_, sym, subst, _∙_}
 use lib.ListN.{length, take, length-take}
 use Rattle.digits.specs.Digits.{digitOf, Under}
-use Rattle.digits.proofs.Laws.{under-six}
+use Rattle.digits.proofs.Six.{under-six}
 use Rattle.line.specs.Line.{isLetter, isSwitch, isIdent}
 use Rattle.line.proofs.Laws.{
   too-short,

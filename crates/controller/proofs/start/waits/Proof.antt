@@ -5,8 +5,8 @@ use mathlib.Core.Path.{sym, _∙_}
 use borrow.Author.Tests.{ltb-true}
 use lib.Dec.{eqb, ltb}
 use Rattle.laws.proofs.Pick.{on-true, on-false}
+use Rattle.laws.proofs.Tests.{both}
 use Rattle.controller.specs.Inner.Parts.{withPause}
-use Rattle.controller.proofs.StepLaws.{and-second}
 use Rattle.controller.proofs.start.waits.Statement.{statement}
 use Rattle.controller.proofs.start.waits.Tie as tie
 
@@ -16,17 +16,17 @@ is-due-requires c κs = search needs
 sub-due : tie.Need-sub-due
 sub-due c =
     let p = c .before .before .before .args .hot .pause in
-    let e = and-second (eqb (p .left) 1) (ltb 0 (p .waiting))
+    let e = both (eqb (p .left) 1) (ltb 0 (p .waiting))
     (sym (c .before .before .is-due .ensures) ∙ c .before .if1 .taken) in
-    omega (arith, ltb-true 0 (p .waiting) e)
+    omega (arith, ltb-true 0 (p .waiting) (e .1))
 
 due-requires : tie.Need-due-requires
 due-requires c κs =
     let q = c .before .before .before in
     let p = q .args .hot .pause in
-    let e = and-second (eqb (p .left) 1) (ltb 0 (p .waiting))
+    let e = both (eqb (p .left) 1) (ltb 0 (p .waiting))
     (sym (c .before .before .is-due .ensures) ∙ c .before .if1 .taken) in
-    (omega (arith, ltb-true 0 (p .waiting) e, q .pre .waiting), q .pre .start)
+    (omega (arith, ltb-true 0 (p .waiting) (e .1), q .pre .waiting), q .pre .start)
 
 lessened-requires : tie.Need-lessened-requires
 lessened-requires c κs = search needs
