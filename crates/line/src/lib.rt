@@ -77,7 +77,7 @@ fn is_ident(c: u8) -> bool
 }
 
 // The character at a place of the line; an absent one counts as the digit 0.
-fn char_at(cs: [u8; 10], count: u8, i: usize) -> u8
+fn char_at(cs: [u8; 10], count: u16, i: usize) -> u8
     ensures { λ r. ⌜ r ≡ charAt (take count cs) i ⌝ }
 {
     if count as usize <= i {
@@ -90,7 +90,7 @@ fn char_at(cs: [u8; 10], count: u8, i: usize) -> u8
 }
 
 // The six digits of the line as a number.
-fn read_digits(cs: [u8; 10], count: u8) -> Number
+fn read_digits(cs: [u8; 10], count: u16) -> Number
     ensures { λ r. ⌜ r ≡ numberOf (digitChars (take count cs)) ⌝ }
 {
     digits::read_six([
@@ -104,7 +104,7 @@ fn read_digits(cs: [u8; 10], count: u8) -> Number
 }
 
 // How many digits a line of count characters has.
-fn digit_count(count: u8) -> u8
+fn digit_count(count: u16) -> u16
     ensures { λ r. ⌜ r ≡ min 6 (count - 2) ⌝ }
 {
     if count < 2 {
@@ -117,7 +117,7 @@ fn digit_count(count: u8) -> u8
 }
 
 // Checks 8 to 10, and the command of the row.
-fn judge_row(row: Row, count: u8, number: u32) -> Judged
+fn judge_row(row: Row, count: u16, number: u32) -> Judged
     ensures { λ r. ⌜ r ≡ judgeRow row count number ⌝ }
 {
     match row {
@@ -138,7 +138,7 @@ fn judge_row(row: Row, count: u8, number: u32) -> Judged
 }
 
 // Check 7 of the digits, then 8 to 10.
-fn judge_number(letter: u8, count: u8, number: Number) -> Judged
+fn judge_number(letter: u8, count: u16, number: Number) -> Judged
     requires { ⌜ Under sixDigits number ⌝ }
     ensures { λ r. ⌜ r ≡ turnedAway 7 (not (isNumber number)) (judgeValue letter count (valueOf number)) ⌝ }
 {
@@ -155,14 +155,14 @@ fn judge_number(letter: u8, count: u8, number: Number) -> Judged
 }
 
 // Whether the line is silent.
-pub fn is_silent(cs: [u8; 10], count: u8) -> bool
+pub fn is_silent(cs: [u8; 10], count: u16) -> bool
     ensures { λ r. ⌜ r ≡ silentOf (take count cs) ⌝ }
 {
     char_at(cs, count, 1) == b'4'
 }
 
 // The line's identification.
-pub fn ident(cs: [u8; 10], count: u8) -> Ident
+pub fn ident(cs: [u8; 10], count: u16) -> Ident
     ensures { λ r. ⌜ r ≡ identOf (take count cs) ⌝ }
 {
     if count == 9 {
@@ -172,7 +172,7 @@ pub fn ident(cs: [u8; 10], count: u8) -> Ident
 }
 
 // The line judged: its first ten characters (fewer if it has fewer), which tell an over-long line from a whole one.
-pub fn judge(cs: [u8; 10], count: u8) -> Judged
+pub fn judge(cs: [u8; 10], count: u16) -> Judged
     ensures { λ r. ⌜ r ≡ judgeOf (take count cs) ⌝ }
     ensures { λ r. ⌜ verdictOf r ≡ lineVerdict (take count cs) ⌝ }
 {

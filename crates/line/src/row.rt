@@ -107,7 +107,7 @@ fn row_small_q(code: u8) -> Row
 }
 
 // W alone is a query, with digits an order.
-fn row_w(count: u8, number: u32) -> Row
+fn row_w(count: u16, number: u32) -> Row
     ensures { λ r. ⌜ r ≡ rowW count number ⌝ }
 {
     if count == 0 {
@@ -123,7 +123,7 @@ fn row_w(count: u8, number: u32) -> Row
 }
 
 // The row of a letter, a digit count and the six digits' number. W has no code; P, Q, q with no digit have none.
-pub(crate) fn row_of(letter: u8, count: u8, number: u32) -> Row
+pub(crate) fn row_of(letter: u8, count: u16, number: u32) -> Row
     requires { ⌜ number < sixDigits ⌝ }
     ensures { λ r. ⌜ r ≡ rowOf letter count number ⌝ }
 {

@@ -10,10 +10,11 @@ use line::Judged;
 // Byte 0D, which ends a line.
 const END: u8 = 13;
 
-// The line that is being received: its first ten characters, zeros after them, and their count.
+// The line that is being received: its first ten characters, zeros after them, and their count. Twelve bytes: eleven
+// would be copied in parts that overlap, and a tick would wait for them.
 pub struct Receiver {
     chars: [u8; 10],
-    count: u8,
+    count: u16,
 }
 
 // What comes of a byte.
