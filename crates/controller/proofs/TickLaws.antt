@@ -19,7 +19,7 @@ use Rattle.machine.specs.Stops.{takes, stops, stopping, marks, blocked, sensorA
 use Rattle.machine.specs.Outputs.{word}
 use Rattle.controller.specs.Held.{heldSettings, heldPlan, heldHot}
 use Rattle.controller.specs.Inner.Parts.{withWires}
-use Rattle.controller.specs.Inner.Motion.{restOf, WiresFit}
+use Rattle.controller.specs.Inner.Motion.{wordOf, restOf, WiresFit}
 use Rattle.controller.specs.Inner.Watch.{takesOf, limitOrWatchOf, causesGiven, stopsGiven, stopsMet, stopsOf}
 
 -- What the five axes have, at one of them.
@@ -82,7 +82,7 @@ module _ (m : Machine) where
       omega (arith, h)
 
   -- The word of a first half without a pulse.
-  pub still-is : restOf (heldHot m .wires) ≡ word m (λ k. pos 0) true
+  pub still-is : wordOf (heldHot m .wires) false false false false false ≡ word m (λ k. pos 0) true
   still-is =
       let h = word-still (m .switch) (m .settings .polarity) (m .outputs) (m .move .plan .minus) (λ k. pos 0)
       (λ k l. refl) in
@@ -97,4 +97,5 @@ module _ (m : Machine) where
             (omega arith) (omega arith) (omega arith) (omega arith) (omega arith);
         fires = five (λ (k : ℕ). getD (heldHot m .wires .cells .fires) k 0 < 16777216)
             (omega arith) (omega arith) (omega arith) (omega arith) (omega arith);
+        still = omega arith;
       }

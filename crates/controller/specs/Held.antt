@@ -4,7 +4,7 @@ use Prim.Native.Nat.{ℕ, _+_, _*_, _%_}
 use lib.IntN.{ℤ}
 use lib.ListN.{length}
 use Rattle.laws.specs.Axes.{each}
-use Rattle.outputs.specs.Outputs.{generalOf, restOf, fireOf}
+use Rattle.outputs.specs.Outputs.{generalOf, restOf, fireOf, stillOf}
 use Rattle.receiver.specs.Receiver.{holding}
 use Rattle.reply.specs.declared.Travel.{Travel}
 use Rattle.reply.specs.declared.Position.{Position}
@@ -80,6 +80,7 @@ heldWires switch polarity outputs p = record {
   cells = record {
     rests = each (restOf switch polarity (p .minus));
     fires = each (fireOf switch polarity (p .minus));
+    still = stillOf switch polarity (p .minus);
   };
 }
 

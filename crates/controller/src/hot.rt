@@ -1,4 +1,5 @@
-// What a tick may alter, in parts, and what it reads of the settings.
+// What a tick may alter, in parts, and what it reads of the settings. `Run` and `Pause` have no hole behind their last
+// field: the compiler copies a hole by itself in every tick.
 ghost use mathlib.Core.Path.{_≡_};
 ghost use mathlib.Core.Bool.{_||_};
 use outputs::Cells;
@@ -28,7 +29,7 @@ pub struct Run {
     pub gone: u32,
     pub speed: u32,
     pub phase: u32,
-    pub master: u8,
+    pub master: u16,
     pub moving: bool,
     pub stopping: bool,
 }
@@ -43,7 +44,7 @@ pub struct Counters {
 // The ticks of the dwell that are left, and the waiting start: 0, or its master and 1.
 pub struct Pause {
     pub left: u32,
-    pub waiting: u8,
+    pub waiting: u32,
 }
 
 // Status bits 2, 3, 5 and 6.

@@ -196,7 +196,8 @@ pub(crate) fn rest(wires: Wires) -> u32
     requires { ⌜ WiresFit wires ⌝ }
     ensures { λ r. ⌜ r ≡ restOf wires ⌝ }
 {
-    word(wires, false, false, false, false, false)
+    let cells = wires.cells;
+    wires.general + cells.still
 }
 
 // Whether a stop has come down to the slope.

@@ -128,7 +128,7 @@ pub(crate) fn begun(next: Plan, polarity: u32, switch: u8, hot: Hot, master: u8)
         gone: 0,
         speed: 0,
         phase: 0,
-        master,
+        master: master as u16,
         moving: true,
         stopping: false,
     };
@@ -224,7 +224,7 @@ fn lessened(left: u32) -> u32
     left - 1
 }
 
-fn is_due(left: u32, waiting: u8) -> bool
+fn is_due(left: u32, waiting: u32) -> bool
     ensures { λ r. ⌜ r ≡ isDueOf left waiting ⌝ }
 {
     if left == 1 {
@@ -243,7 +243,7 @@ pub(crate) fn waits(settings: Settings, next: Plan, switch: u8, hot: Hot) -> Wai
     let mut number = 0;
     if is_due(hot.pause.left, hot.pause.waiting) {
         let was = hot;
-        let waited = due(settings, next, switch, was, hot.pause.waiting - 1);
+        let waited = due(settings, next, switch, was, (hot.pause.waiting - 1) as u8);
         let tried = waited.hot;
         after = tried;
         number = waited.number;

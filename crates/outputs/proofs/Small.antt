@@ -1,14 +1,16 @@
 -- Every part of a word is small. Assumes nothing.
 use Prim.Native.Nat.{ℕ, _*_, _^_, _≤_}
 use mathlib.Core.Bool.{Bool, true, false, not}
+use mathlib.Core.List.{List}
+use mathlib.Core.Path.{_≡_, sym, subst}
 use native.Mathlib.Nat.{pow-le-pow-left}
 use native.Mathlib.Omega.{arith}
 use lib.Dec.{ltb, lit≤}
 use lib.IntN.{ℤ, pos}
-use Rattle.laws.specs.Axes.{directed}
+use Rattle.laws.specs.Axes.{each, directed}
 use Rattle.laws.proofs.BitLaws.{weight-le}
 use Rattle.laws.proofs.Pick.{by-bool}
-use Rattle.outputs.specs.Outputs.{line, generalOf, linesOf, cellOf, restOf, fireOf}
+use Rattle.outputs.specs.Outputs.{line, generalOf, linesOf, cellOf, restOf, fireOf, CellsFit}
 
 pub general-le : (s o : ℕ) → generalOf s o ≤ 16777215
 general-le s o = by-bool (λ (x : ℕ). x ≤ 16777215) (ltb s 8) _ _ (λ e. omega arith) (λ e. omega arith)
@@ -59,3 +61,13 @@ small s q o minus = record {
   fire3 = fire-le s q minus 3;
   fire4 = fire-le s q minus 4;
 }
+
+-- The parts at rest as a list.
+pub rests-small : (s q : ℕ) (minus : ℕ → Bool) {rests : List ℕ} → rests ≡ each (restOf s q minus) → CellsFit rests
+rests-small s q minus e = subst CellsFit (sym e) (record {
+  at0 = rest-le s q minus 0;
+  at1 = rest-le s q minus 1;
+  at2 = rest-le s q minus 2;
+  at3 = rest-le s q minus 3;
+  at4 = rest-le s q minus 4;
+})

@@ -4,10 +4,12 @@
 --   switch 4-7   bit 2k    plus pulse     first half only       bit 2k+1  minus pulse      first half only
 --   switch 8-B   as 0-3 at bits 4k and 4k+2, each followed by its inverse at 4k+1 and 4k+3
 --   switch D-F   as 4-7 at bits 4k and 4k+2, each followed by its inverse
-use Prim.Native.Nat.{ℕ, _+_, _*_, _/_, _%_, _^_}
+use Prim.Native.Nat.{ℕ, _+_, _*_, _/_, _%_, _^_, _≤_}
 use mathlib.Core.Bool.{Bool, true, false, cond, not, _&&_, _||_}
+use mathlib.Core.List.{List}
 use lib.Dec.{ltb, leb, eqb}
 use lib.IntN.{ℤ, pos, negsuc}
+use lib.ListN.{getD}
 use Rattle.laws.specs.Axes.{directed}
 use Rattle.laws.specs.Bits.{bit, weight, weigh}
 
@@ -93,6 +95,21 @@ shownOf switch polarity minus p early n m =
 -- What axis k adds at rest, and in the first half of a tick in which it pulses.
 unfoldable pub restOf : ℕ → ℕ → (ℕ → Bool) → ℕ → ℕ
 restOf switch polarity minus k = cellOf switch polarity (minus k) (pos 0) false k
+
+-- What five axes add together, and what each adds at most.
+abbrev pub sumOf : (ℕ → ℕ) → ℕ
+sumOf f = f 0 + f 1 + f 2 + f 3 + f 4
+
+pub record CellsFit (l : List ℕ) : Type 0 where
+  pub at0 : getD l 0 0 ≤ 15
+  pub at1 : getD l 1 0 ≤ 240
+  pub at2 : getD l 2 0 ≤ 3840
+  pub at3 : getD l 3 0 ≤ 61440
+  pub at4 : getD l 4 0 ≤ 983040
+
+-- What all five add at rest.
+abbrev pub stillOf : ℕ → ℕ → (ℕ → Bool) → ℕ
+stillOf switch polarity minus = sumOf (restOf switch polarity minus)
 
 unfoldable pub fireOf : ℕ → ℕ → (ℕ → Bool) → ℕ → ℕ
 fireOf switch polarity minus k = cellOf switch polarity (minus k) (directed (minus k) 1) true k

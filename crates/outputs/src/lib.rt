@@ -8,13 +8,14 @@ ghost use lib.IntN.{pos};
 ghost use lib.ListN.{getD};
 ghost use Rattle.laws.specs.Axes.{each, directed};
 ghost use Rattle.laws.specs.Bits.{bit};
-ghost use Rattle.outputs.specs.Outputs.{generalOf, restOf, fireOf};
+ghost use Rattle.outputs.specs.Outputs.{generalOf, restOf, fireOf, sumOf, stillOf, CellsFit};
 ghost use Rattle.outputs.specs.Outputs.{xor, hasDirection, pairOf, inversesOf, linesOf, shownOf};
 
-// What each axis adds to a word: at rest, and while it pulses.
+// What each axis adds to a word, at rest and while it pulses, and what all five add at rest.
 pub struct Cells {
     pub rests: [u32; 5],
     pub fires: [u32; 5],
+    pub still: u32,
 }
 
 // What the general outputs add to a word.
@@ -112,10 +113,19 @@ fn fire(switch: u8, polarity: u32, minus: bool, n: u32, m: u32) -> u32
     lines(switch, polarity, !minus, minus, n, m)
 }
 
+// What five axes add together.
+fn sum(cells: [u32; 5]) -> u32
+    requires { ⌜ CellsFit cells ⌝ }
+    ensures { λ r. ⌜ r ≡ sumOf (λ k. getD cells k 0) ⌝ }
+{
+    cells[0] + cells[1] + cells[2] + cells[3] + cells[4]
+}
+
 // What the lines of the five axes add to a word.
 pub fn axis_cells(switch: u8, polarity: u32, minus: [bool; 5]) -> Cells
     ensures { λ r. ⌜ r .rests ≡ each (restOf switch polarity (λ k. getD minus k false)) ⌝ }
     ensures { λ r. ⌜ r .fires ≡ each (fireOf switch polarity (λ k. getD minus k false)) ⌝ }
+    ensures { λ r. ⌜ r .still ≡ stillOf switch polarity (λ k. getD minus k false) ⌝ }
 {
     let rests = [
         rest(switch, polarity, minus[0], 1, 1),
@@ -131,5 +141,10 @@ pub fn axis_cells(switch: u8, polarity: u32, minus: [bool; 5]) -> Cells
         fire(switch, polarity / 64, minus[3], 64, 4096),
         fire(switch, polarity / 256, minus[4], 256, 65536),
     ];
-    Cells { rests, fires }
+    let still = sum(rests);
+    Cells {
+        rests,
+        fires,
+        still,
+    }
 }

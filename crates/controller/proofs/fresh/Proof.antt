@@ -18,7 +18,7 @@ returns c =
     let s = c .before .before .before .args .switch in
     let w = c .before .axis-cells in
     λ i. freshGiven s (c .before .before .general .ensures i)
-    (record { rests = w .ensures .0 i; fires = w .ensures .1 i }) (c .new .ensures i)
+    (record { rests = w .ensures .0 i; fires = w .ensures .1 .0 i; still = w .ensures .1 .1 i }) (c .new .ensures i)
 
 pub fresh-spec : {M : Type 1} → statement M
 fresh-spec = tie.close (tie.spec general-requires axis-cells-requires new-requires returns)

@@ -104,13 +104,14 @@ wordOf w a b c d e =
 
 -- The output word at rest.
 abbrev pub restOf : Wires → ℕ
-restOf w = wordOf w false false false false false
+restOf w = w .general + w .cells .still
 
 -- What keeps a word's sum in range.
 pub record WiresFit (w : Wires) : Type 0 where
   pub general : w .general < 16777216
   pub rests : (k : ℕ) → k < 5 → getD (w .cells .rests) k 0 < 16777216
   pub fires : (k : ℕ) → k < 5 → getD (w .cells .fires) k 0 < 16777216
+  pub still : w .cells .still < 16777216
 
 -- ---- A tick of a move
 

@@ -7,7 +7,7 @@ use lib.ListN.{getD}
 use Rattle.laws.specs.Axes.{each}
 use Rattle.inputs.specs.Inputs.{someBlocked}
 use Rattle.outputs.specs.declared.Cells.{Cells}
-use Rattle.outputs.specs.Outputs.{restOf, fireOf}
+use Rattle.outputs.specs.Outputs.{restOf, fireOf, stillOf}
 use Rattle.receiver.specs.declared.Receiver.{Receiver}
 use Rattle.reply.specs.declared.Travel.{Travel}
 use Rattle.reply.specs.declared.Position.{Position}
@@ -164,4 +164,5 @@ abbrev pub cellsOf : ℕ → ℕ → List Bool → Cells
 cellsOf switch polarity minus = record {
   rests = each (restOf switch polarity (λ k. getD minus k false));
   fires = each (fireOf switch polarity (λ k. getD minus k false));
+  still = stillOf switch polarity (λ k. getD minus k false);
 }

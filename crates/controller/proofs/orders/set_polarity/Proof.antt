@@ -12,7 +12,7 @@ returns c =
     let w = c .before .before .before in
     let q = w .before .before .args in
     λ i. withSetting (withHot (q .c) (withWires (q .c .hot) (q .c .hot .wires .general)
-    (record { rests = w .axis-cells .ensures .0 i; fires = w .axis-cells .ensures .1 i }))) 12 (q .v)
+    (record { rests = w .axis-cells .ensures .0 i; fires = w .axis-cells .ensures .1 .0 i; still = w .axis-cells .ensures .1 .1 i }))) 12 (q .v)
 
 pub set-polarity-spec : {M : Type 1} → statement M
 set-polarity-spec = tie.close (tie.spec axis-cells-requires returns)

@@ -20,6 +20,9 @@ sub-due c =
     (sym (c .before .before .is-due .ensures) ∙ c .before .if1 .taken) in
     omega (arith, ltb-true 0 (p .waiting) (e .1))
 
+cast-due : tie.Need-cast-due
+cast-due c = omega (arith, c .before .before .before .pre .waiting)
+
 due-requires : tie.Need-due-requires
 due-requires c κs =
     let q = c .before .before .before in
@@ -47,4 +50,4 @@ returns-2 c =
 
 pub waits-spec : {M : Type 1} → statement M
 waits-spec =
-    tie.close (tie.spec is-due-requires sub-due due-requires lessened-requires returns returns-2)
+    tie.close (tie.spec is-due-requires sub-due cast-due due-requires lessened-requires returns returns-2)
