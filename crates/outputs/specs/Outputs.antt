@@ -96,6 +96,9 @@ shownOf switch polarity minus p early n m =
 unfoldable pub restOf : ℕ → ℕ → (ℕ → Bool) → ℕ → ℕ
 restOf switch polarity minus k = cellOf switch polarity (minus k) (pos 0) false k
 
+unfoldable pub fireOf : ℕ → ℕ → (ℕ → Bool) → ℕ → ℕ
+fireOf switch polarity minus k = cellOf switch polarity (minus k) (directed (minus k) 1) true k
+
 -- What five axes add together, and what each adds at most.
 abbrev pub sumOf : (ℕ → ℕ) → ℕ
 sumOf f = f 0 + f 1 + f 2 + f 3 + f 4
@@ -110,6 +113,3 @@ pub record CellsFit (l : List ℕ) : Type 0 where
 -- What all five add at rest.
 abbrev pub stillOf : ℕ → ℕ → (ℕ → Bool) → ℕ
 stillOf switch polarity minus = sumOf (restOf switch polarity minus)
-
-unfoldable pub fireOf : ℕ → ℕ → (ℕ → Bool) → ℕ → ℕ
-fireOf switch polarity minus k = cellOf switch polarity (minus k) (directed (minus k) 1) true k
