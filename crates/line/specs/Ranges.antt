@@ -20,12 +20,19 @@ isAxis k = ltb k 5
 abbrev pub inputBits : ℕ → Bool
 inputBits v = eqb (v / 16384) 0 && eqb (v / 1024 % 4) 0
 
+-- The most units of speed and of slope.
+abbrev pub topSpeed : ℕ
+topSpeed = 1000000
+
+abbrev pub topSlope : ℕ
+topSlope = 4095
+
 -- A setting by its code: speed 1 to 1,000,000, slope 1 to 4,095, dwell 0 to 16,383, watch 0 to 3, polarity 0 to 4,095,
 -- low-ON and high-ON the bits above. No other code sets anything.
 abbrev pub settingFits : ℕ → ℕ → Bool
 settingFits code v =
-    cond (eqb code 8) (isWithin v 1 1000000)
-    (cond (eqb code 9) (isWithin v 1 4095)
+    cond (eqb code 8) (isWithin v 1 topSpeed)
+    (cond (eqb code 9) (isWithin v 1 topSlope)
     (cond (eqb code 10) (leb v 16383)
     (cond (eqb code 11) (leb v 3)
     (cond (eqb code 12) (leb v 4095)

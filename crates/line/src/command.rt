@@ -5,6 +5,10 @@ ghost use Rattle.line.specs.Ranges.{isWithin, inputBits, settingFits, re
 
 // The axes.
 pub const AXES: u8 = 5;
+// The most units of speed and of slope.
+pub const TOP_SPEED: u32 = 1000000;
+
+pub const TOP_SLOPE: u32 = 4095;
 
 // What is read.
 pub enum Reading {
@@ -62,10 +66,10 @@ fn setting_fits(code: u8, v: u32) -> bool
     ensures { λ r. ⌜ r ≡ settingFits code v ⌝ }
 {
     if code == 8 {
-        return within(v, 1, 1000000);
+        return within(v, 1, TOP_SPEED);
     }
     if code == 9 {
-        return within(v, 1, 4095);
+        return within(v, 1, TOP_SLOPE);
     }
     if code == 10 {
         return v <= 16383;
