@@ -4,7 +4,7 @@ use mathlib.Core.Bool.{Bool, cond}
 use mathlib.Core.List.{List, [], _∷_, _++_}
 use lib.Dec.{leb}
 use lib.ListN.{length, getD, take, drop}
-use Rattle.digits.specs.Digits.{capitalOf, sixOf}
+use Rattle.digits.specs.Digits.{endByte, capitalOf, sixOf}
 use Rattle.digits.specs.declared.Ident.{Ident}
 use Rattle.digits.specs.declared.Ident.the-variants.{Absent, Given}
 use Rattle.block.specs.declared.Block.{Block}
@@ -16,7 +16,7 @@ identChars (Given c) = c ∷ []
 
 -- A block: letter, switch digit, six digits (letters in capitals), the identification if given, 0D.
 unfoldable pub blockOf : Block → List ℕ
-blockOf b = b .letter ∷ capitalOf (b .switch) ∷ (sixOf (b .number) ++ (identChars (b .ident) ++ (13 ∷ [])))
+blockOf b = b .letter ∷ capitalOf (b .switch) ∷ (sixOf (b .number) ++ (identChars (b .ident) ++ (endByte ∷ [])))
 
 -- The length of every block with that identification: 9 or 10.
 abbrev pub lengthWith : Ident → ℕ

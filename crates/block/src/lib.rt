@@ -43,12 +43,12 @@ fn write_front(buf: &mut [u8], block: Block) -> usize
     buf[7] = d[5];
     match ident {
         Ident::Absent => {
-            buf[8] = 13;
+            buf[8] = digits::END;
             9
         }
         Ident::Given(c) => {
             buf[8] = c;
-            buf[9] = 13;
+            buf[9] = digits::END;
             10
         }
     }

@@ -21,6 +21,10 @@ sixDigits = 16777216
 abbrev pub topBit : ℕ
 topBit = 524288
 
+-- Byte 0D, which ends a line and a block.
+abbrev pub endByte : ℕ
+endByte = 13
+
 -- A character as a digit: 0-9 (48 to 57), A-F (65 to 70), a-f (97 to 102).
 abbrev pub digitOf : ℕ → Digit
 digitOf c =

@@ -11,6 +11,8 @@ pub const FIVE_DIGITS: u32 = 1048576;
 pub const SIX_DIGITS: u32 = 16777216;
 // The top bit of five digits: a distance's and a travel's minus, and what a held position has added.
 pub const TOP_BIT: u32 = 524288;
+// Byte 0D, which ends a line and a block.
+pub const END: u8 = 13;
 
 // What a character is as a digit. The case is told beside the value: data digits ignore it, and an
 // identification is returned as the very character.
