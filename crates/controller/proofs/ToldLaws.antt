@@ -2,7 +2,7 @@
 use Prim.Native.Nat.{ℕ, _≤_}
 use mathlib.Core.Bool.{Bool, true, false, cond}
 use mathlib.Core.List.{List}
-use mathlib.Core.Path.{_≡_, sym, ap, subst, _∙_}
+use mathlib.Core.Path.{_≡_, refl, sym, ap, subst, _∙_}
 use borrow.Author.Tests.{eq-eqb, ne-eqb}
 use lib.ListN.{length}
 use Rattle.digits.specs.declared.Ident.{Ident}
@@ -45,32 +45,21 @@ module _ (c : Controller) (ident : Ident) (d : List ℕ) where
       )
 
   module _ (command : Command) (digits : ℕ) where
-    pub obey-silent : (silent : Bool) (t : Controller) → silent ≡ true → t ≡ zeroWatchOf (doesOf c command)
-        → Answers (record { controller = t; length = 0; number = 0 }) d (obeyedOf c silent ident command digits)
-        (replyTo c silent ident command digits) d
-    obey-silent silent t s e =
-        subst (λ (b : Bool). Answers (record { controller = t; length = 0; number = 0 }) d
-        (obeyedOf c b ident command digits)
-        (replyTo c b ident command digits) d) (sym s)
-        ((λ i. record { controller = e i; length = 0; number = 0 }), sym (over-nil d))
+    pub tell-silent : (silent : Bool) → silent ≡ true
+        → (0 ≡ length (replyTo c silent ident command digits)) × (d ≡ over (replyTo c silent ident command digits) d)
+    tell-silent silent s =
+        subst (λ (b : Bool). (0 ≡ length (replyTo c b ident command digits))
+        × (d ≡ over (replyTo c b ident command digits) d)) (sym s) (refl, sym (over-nil d))
 
-    pub obey-told : (silent : Bool) (t : Controller) (r : Readings) (l : ℕ) (x : List ℕ) → 120 ≤ length d → silent ≡
-        false
-        → t ≡ zeroWatchOf (doesOf c command) → r ≡ readingsOf c
-        → l ≡ laidLength 0 (replyOf (toldBy r) command digits ident) d
+    pub tell-told : (silent : Bool) (r : Readings) (l : ℕ) (x : List ℕ) → 120 ≤ length d → silent ≡ false
+        → r ≡ readingsOf c → l ≡ laidLength 0 (replyOf (toldBy r) command digits ident) d
         → x ≡ laid 0 (replyOf (toldBy r) command digits ident) d
-        → Answers (record { controller = t; length = l; number = 0 }) x (obeyedOf c silent ident command digits)
-        (replyTo c silent ident command digits) d
-    obey-told silent t r l x h s e k p q =
-        subst (λ (b : Bool). Answers (record { controller = t; length = l; number = 0 }) x
-        (obeyedOf c b ident command digits)
-        (replyTo c b ident command digits) d) (sym s) (
-          (λ i. record {
-            controller = e i;
-            length = (p ∙ (reply-length (toldBy r) command digits ident d h
-                ∙ ap (λ (y : Readings). length (replyOf (toldBy y) command digits ident)) k)) i;
-            number = 0;
-          }),
+        → (l ≡ length (replyTo c silent ident command digits)) × (x ≡ over (replyTo c silent ident command digits) d)
+    tell-told silent r l x h s k p q =
+        subst (λ (b : Bool). (l ≡ length (replyTo c b ident command digits))
+        × (x ≡ over (replyTo c b ident command digits) d)) (sym s) (
+          p ∙ (reply-length (toldBy r) command digits ident d h
+              ∙ ap (λ (y : Readings). length (replyOf (toldBy y) command digits ident)) k),
           q ∙ (reply-over (toldBy r) command digits ident d h
               ∙ ap (λ (y : Readings). over (replyOf (toldBy y) command digits ident) d) k),
         )

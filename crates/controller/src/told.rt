@@ -5,6 +5,7 @@ ghost use lib.ListN.{length};
 ghost use Rattle.block.specs.Block.{over};
 ghost use Rattle.laws.specs.Bits.{weight};
 ghost use Rattle.line.specs.Fits.{CommandFits, JudgedFits};
+ghost use Rattle.controller.specs.Inner.Parts.{blockedIn};
 ghost use Rattle.controller.specs.Inner.Start.{StartFits};
 ghost use Rattle.controller.specs.Inner.Told.{
   currentOf,
@@ -22,6 +23,7 @@ use crate::Controller;
 use crate::hot;
 use crate::hot::Plan;
 use crate::orders;
+use crate::watch;
 use digits::Ident;
 use line::Command;
 use line::Judged;
@@ -40,15 +42,34 @@ fn bit(on: bool, n: u8) -> u8
 fn current(c: Controller) -> Plan
     ensures { λ r. ⌜ r ≡ currentOf c ⌝ }
 {
-    let hot = c.hot;
-    let cold = c.cold;
-    let run = hot.run;
-    if run.moving {
-        let plan = hot.plan;
-        return plan;
+    let mut plan = c.cold.next;
+    if c.hot.run.moving {
+        let running = c.hot.plan;
+        plan = running;
     }
-    let next = cold.next;
-    next
+    plan
+}
+
+// Whether a limit is in the way. The arrays are made anew, so that no line has to keep a plan in memory for a call that
+// few make.
+fn blocked(c: Controller) -> bool
+    ensures { λ r. ⌜ r ≡ blockedIn (c .cold .settings) (c .hot .inputs) (currentOf c) ⌝ }
+{
+    if watch::is_calm(c.cold.settings.low, c.cold.settings.high, c.hot.inputs) {
+        return false;
+    }
+    let plan = current(c);
+    let d = plan.distances;
+    let m = plan.minus;
+    let distances = [d[0], d[1], d[2], d[3], d[4]];
+    let minus = [m[0], m[1], m[2], m[3], m[4]];
+    inputs::blocked(
+        c.cold.settings.low,
+        c.cold.settings.high,
+        c.hot.inputs,
+        distances,
+        minus,
+    )
 }
 
 // The status word: seven bits.
@@ -56,21 +77,16 @@ pub(crate) fn status(c: Controller) -> u8
     ensures { λ r. ⌜ r ≡ statusOf c ⌝ }
 {
     let hot = c.hot;
-    let cold = c.cold;
-    let settings = cold.settings;
     let run = hot.run;
     let flags = hot.flags;
     let pause = hot.pause;
-    let plan = current(c);
-    let distances = plan.distances;
-    let minus = plan.minus;
-    let blocked = inputs::blocked(settings.low, settings.high, hot.inputs, distances, minus);
+    let limited = blocked(c);
     let busy = hot::either(run.moving, 0 < pause.left);
     bit(busy, 1)
         + bit(run.moving, 2)
         + bit(flags.wrong, 4)
         + bit(flags.stopped, 8)
-        + bit(blocked, 16)
+        + bit(limited, 16)
         + bit(flags.emergency, 32)
         + bit(flags.sensed, 64)
 }
@@ -103,16 +119,11 @@ fn refuse(c: Controller, buf: &mut [u8], silent: bool, ident: Ident, number: u8)
     ensures { λ r. ⌜ r ≡ refusedOf c silent ident number ⌝ }
     ensures { λ r. ⌜ now (buf .exit) ≡ over (refusalTo c silent ident number) (now (buf .entry)) ⌝ }
 {
-    let cold = c.cold;
     let controller = orders::turned(c, number);
-    if silent {
-        return ByteAnswer {
-            controller,
-            length: 0,
-            number,
-        };
+    let mut length = 0;
+    if !silent {
+        length = reply::write_refusal(buf, c.cold.switch, number, ident);
     }
-    let length = reply::write_refusal(buf, cold.switch, number, ident);
     ByteAnswer {
         controller,
         length,
@@ -120,7 +131,27 @@ fn refuse(c: Controller, buf: &mut [u8], silent: bool, ident: Ident, number: u8)
     }
 }
 
-// A line accepted.
+// The reply to a line accepted, and its length: none to a silent one.
+fn tell(
+    c: Controller,
+    buf: &mut [u8],
+    silent: bool,
+    ident: Ident,
+    command: Command,
+    digits: u32,
+) -> usize
+    requires { ⌜ 120 ≤ length (now buf) ⌝ }
+    ensures { λ r. ⌜ r ≡ length (replyTo c silent ident command digits) ⌝ }
+    ensures { λ r. ⌜ now (buf .exit) ≡ over (replyTo c silent ident command digits) (now (buf .entry)) ⌝ }
+{
+    if silent {
+        return 0;
+    }
+    let told = readings(c);
+    reply::write_reply(buf, told, command, digits, ident)
+}
+
+// A line accepted: the reply first, since it is made from what is there before the command is obeyed.
 fn obey(
     c: Controller,
     buf: &mut [u8],
@@ -133,17 +164,9 @@ fn obey(
     ensures { λ r. ⌜ r ≡ obeyedOf c silent ident command digits ⌝ }
     ensures { λ r. ⌜ now (buf .exit) ≡ over (replyTo c silent ident command digits) (now (buf .entry)) ⌝ }
 {
+    let length = tell(c, buf, silent, ident, command, digits);
     let done = orders::does(c, command);
     let controller = orders::zero_watch(done);
-    if silent {
-        return ByteAnswer {
-            controller,
-            length: 0,
-            number: 0,
-        };
-    }
-    let told = readings(c);
-    let length = reply::write_reply(buf, told, command, digits, ident);
     ByteAnswer {
         controller,
         length,
@@ -163,14 +186,26 @@ pub(crate) fn lined(
     ensures { λ r. ⌜ r ≡ linedOf c silent ident judged ⌝ }
     ensures { λ r. ⌜ now (buf .exit) ≡ over (lineReply c silent ident judged) (now (buf .entry)) ⌝ }
 {
+    let mut answer = ByteAnswer {
+        controller: c,
+        length: 0,
+        number: 0,
+    };
     match judged {
-        Judged::Refused(number) => refuse(c, buf, silent, ident, number),
+        Judged::Refused(number) => {
+            let refused = refuse(c, buf, silent, ident, number);
+            answer = refused;
+        }
         Judged::Accepted { command, digits } => {
             let number = orders::number(c, command);
             if number == 0 {
-                return obey(c, buf, silent, ident, command, digits);
+                let obeyed = obey(c, buf, silent, ident, command, digits);
+                answer = obeyed;
+            } else {
+                let refused = refuse(c, buf, silent, ident, number);
+                answer = refused;
             }
-            refuse(c, buf, silent, ident, number)
         }
     }
+    answer
 }

@@ -57,7 +57,7 @@ pub(crate) fn takes(settings: Settings, was: Hot, word: u32) -> Hot
 }
 
 // Whether no limit input is active: all that low-ON has are high, none that high-ON has is. Few ticks need more.
-fn is_calm(low: u32, high: u32, inputs: u32) -> bool
+pub(crate) fn is_calm(low: u32, high: u32, inputs: u32) -> bool
     ensures { λ r. ⌜ r ≡ isCalmOf low high inputs ⌝ }
 {
     if (high & inputs) % 1024 == 0 {

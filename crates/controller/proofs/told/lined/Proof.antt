@@ -24,49 +24,48 @@ number-requires c κs = (
 )
 
 obey-requires : tie.Need-obey-requires
-obey-requires c κs = (
-  c .before .before .before .before .before .before .before .pre .0,
-  subst JudgedFits
-      (c .before .before .before .before .judged2 .given .1)
-      (c .before .before .before .before .before .before .before .pre .1) .command,
-)
+obey-requires c κs =
+    let j = c .before .before .before .before in
+    let s = j .before .before .before in
+    (s .pre .0, subst JudgedFits (j .judged2 .given .1) (s .pre .1) .command)
+
+refuse-requires-2 : tie.Need-refuse-requires-2
+refuse-requires-2 c κs = search needs
 
 same-length : tie.Need-same-length
 same-length c = search needs
 
 returns : tie.Need-returns
 returns c =
-    let q = c .before .before .before .before .before .before .before .before .before .before .args in
-    let w = c .before .before .obey in
-    lined-obeyed (q .c) (q .ident) (now (q .buf)) (q .silent) (q .judged) _ _ _ _ _
-    (c .before .before .before .before .before .before .before .judged2 .given .1)
-    (c .before .before .before .before .before .number .ensures) (c .before .before .before .before .if1 .taken)
-    (w .ensures .0) (w .ensures .1)
-
-refuse-requires-2 : tie.Need-refuse-requires-2
-refuse-requires-2 c κs = search needs
+    let w = c .before .before in
+    let j = w .before .before .before in
+    let q = j .before .before .before .args in
+    lined-refused (q .c) (q .ident) (now (q .buf)) (q .silent) (q .judged) _ _ _ (j .judged .given .1)
+    (w .refuse .ensures .0) (w .refuse .ensures .1)
 
 same-length-2 : tie.Need-same-length-2
 same-length-2 c = search needs
 
 returns-2 : tie.Need-returns-2
 returns-2 c =
-    let q = c .before .before .before .before .before .before .before .before .args in
-    let w = c .before .before .refuse in
-    lined-refused (q .c) (q .ident) (now (q .buf)) (q .silent) (q .judged) _ _ _
-    (c .before .before .before .before .before .judged .given .1) (w .ensures .0) (w .ensures .1)
+    let w = c .before .before in
+    let n = w .before .before .before in
+    let j = n .before .before in
+    let q = j .before .before .before .args in
+    lined-obeyed (q .c) (q .ident) (now (q .buf)) (q .silent) (q .judged) _ _ _ _ _ (j .judged2 .given .1)
+    (n .number .ensures) (w .before .before .if1 .taken) (w .obey .ensures .0) (w .obey .ensures .1)
 
 same-length-3 : tie.Need-same-length-3
 same-length-3 c = search needs
 
 returns-3 : tie.Need-returns-3
 returns-3 c =
-    let q = c .before .before .before .before .before .before .before .before .before .before .args in
-    let w = c .before .before .refuse2 in
-    lined-numbered (q .c) (q .ident) (now (q .buf)) (q .silent) (q .judged) _ _ _ _ _
-    (c .before .before .before .before .before .before .before .judged2 .given .1)
-    (c .before .before .before .before .before .number .ensures) (c .before .before .before .before .if1 .left)
-    (w .ensures .0) (w .ensures .1)
+    let w = c .before .before in
+    let n = w .before .before .before in
+    let j = n .before .before in
+    let q = j .before .before .before .args in
+    lined-numbered (q .c) (q .ident) (now (q .buf)) (q .silent) (q .judged) _ _ _ _ _ (j .judged2 .given .1)
+    (n .number .ensures) (w .before .before .if1 .left) (w .refuse2 .ensures .0) (w .refuse2 .ensures .1)
 
 pub lined-spec : {M : Type 1} → statement M
 lined-spec =
@@ -77,9 +76,9 @@ lined-spec =
     enum-known-judged-2
     number-requires
     obey-requires
+    refuse-requires-2
     same-length
     returns
-    refuse-requires-2
     same-length-2
     returns-2
     same-length-3

@@ -4,12 +4,8 @@ use Prim.Native.Nat.{_+_}
 use mathlib.Core.Bool.{Bool}
 use mathlib.Core.Path.{ap, _∙_}
 use Rattle.laws.specs.Bits.{weight}
-use Rattle.controller.specs.Inner.Parts.{blockedIn}
 use Rattle.controller.proofs.told.status.Statement.{statement}
 use Rattle.controller.proofs.told.status.Tie as tie
-
-current-requires : tie.Need-current-requires
-current-requires c κs = search needs
 
 blocked-requires : tie.Need-blocked-requires
 blocked-requires c κs = search needs
@@ -66,19 +62,15 @@ returns c =
     let b1 = b2 .before in
     let e = b1 .before in
     let k = e .before .before in
-    let p = k .before .before .before in
-    let h = p .before .before .before .before .before .before .before .args .c in
     λ i. (b1 .bit .ensures .0 ∙ ap (λ (x : Bool). weight x 1) (e .either .ensures)) i
     + b2 .bit2 .ensures .0 i + b3 .bit3 .ensures .0 i + b4 .bit4 .ensures .0 i
-    + (b5 .bit5 .ensures .0 ∙ ap (λ (x : Bool). weight x 16)
-    (k .blocked .ensures ∙ ap (blockedIn (h .cold .settings) (h .hot .inputs)) (p .current .ensures))) i
+    + (b5 .bit5 .ensures .0 ∙ ap (λ (x : Bool). weight x 16) (k .blocked .ensures)) i
     + b6 .bit6 .ensures .0 i + c .bit7 .ensures .0 i
 
 pub status-spec : {M : Type 1} → statement M
 status-spec =
     tie.close
     (tie.spec
-    current-requires
     blocked-requires
     either-requires
     bit-requires
