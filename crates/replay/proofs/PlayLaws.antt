@@ -3,7 +3,7 @@
 use Prim.Native.Nat.{ℕ, zero, suc, _+_, _*_, _%_, _≤_}
 use native.Mathlib.Numerals.{add-one}
 use native.Mathlib.Omega.{arith}
-use mathlib.Core.Bool.{Bool, true, false}
+use mathlib.Core.Bool.{Bool, true, false, cond}
 use mathlib.Core.List.{List, [], _∷_}
 use mathlib.Core.Path.{_≡_, refl, sym, ap, subst, _∙_}
 use borrow.Author.Tests.{eq-eqb, ne-eqb}
@@ -81,21 +81,18 @@ module _ (m : Machine) (b : ℕ) (d : List ℕ) (h : ℕ) (a : ByteAnswer) (x : 
   answered : n ≡ mixed h (length (byteStep m b d .reply)) (byteStep m b d .number) 0
   answered = p ∙ ap (λ (y : ByteAnswer). mixed h (y .length) (y .number) 0) e
 
-  pub byte-whole : (whole : Bool) → whole ≡ true → r ≡ mixedBytes n x
-      → _≡_ {A = Played} (record { controller = a .controller; digest = r }) (heldSeen (sent b whole d (seen m h)))
-  byte-whole whole w q = rw w (λ i. record {
-    controller = e i .controller;
-    digest = (q ∙ (λ j. mixedBytes (answered j) (l j))) i;
-  })
-
-  -- The front part of the buffer is the reply.
-  pub byte-reply : (whole : Bool) (y : List ℕ) → whole ≡ false → length x ≡ length d → y ≡ frontOf x (a .length)
+  -- The whole buffer counts, or its front part, which is the reply.
+  pub byte-part : (whole : Bool) (y : List ℕ) → length x ≡ length d → y ≡ cond whole x (frontOf x (a .length))
       → r ≡ mixedBytes n y
       → _≡_ {A = Played} (record { controller = a .controller; digest = r }) (heldSeen (sent b whole d (seen m h)))
-  byte-reply whole y w k f q = rw w (λ i. record {
+  byte-part true y k f q = λ i. record {
+    controller = e i .controller;
+    digest = (q ∙ (λ j. mixedBytes (answered j) ((f ∙ l) j))) i;
+  }
+  byte-part false y k f q = λ i. record {
     controller = e i .controller;
     digest = (q ∙ (λ j. mixedBytes (answered j) ((f ∙ front) j))) i;
-  })
+  }
     where
       room : a .length ≤ length d
       room = reply-room m b d a x e l k

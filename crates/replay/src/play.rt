@@ -1,7 +1,9 @@
 // The three kinds of call, each on a controller that power-on and calls made, with the digest so far. Assumes nothing.
 ghost use Prim.Native.Nat.{_≤_};
+ghost use mathlib.Core.Bool.{cond};
 ghost use mathlib.Core.Path.{_≡_};
 ghost use lib.ListN.{length, replicate};
+ghost use Rattle.block.specs.Block.{frontOf};
 ghost use Rattle.controller.specs.Reach.{Reachable, Made};
 ghost use Rattle.replay.specs.Replay.{seen, heldSeen, ticked, ticks, sent, read};
 use crate::digest;
@@ -43,6 +45,16 @@ pub(crate) fn ticks(was: Played, word: u32, count: u32) -> Played
     played
 }
 
+// Of a buffer all bytes, or those of the reply alone.
+fn part(buf: &[u8], n: usize, whole: bool) -> &[u8]
+    ensures { λ r. ⌜ now r ≡ cond whole (now (buf .entry)) (frontOf (now (buf .entry)) n) ⌝ }
+{
+    if whole {
+        return buf;
+    }
+    controller::front(buf, n)
+}
+
 // A received byte with this buffer lent. Of the buffer all bytes count, or those of the reply alone.
 fn lend(was: Played, buf: &mut [u8], b: u8, whole: bool) -> Played
     requires { ⌜ Reachable (was .controller) ⌝ }
@@ -54,12 +66,8 @@ fn lend(was: Played, buf: &mut [u8], b: u8, whole: bool) -> Played
     let length = a.length;
     let answered = digest::mix(was.digest, length as u32, a.number as u32, 0);
     let controller = a.controller;
-    if whole {
-        let digest = digest::bytes(answered, buf);
-        return Played { controller, digest };
-    }
-    let reply = controller::front(buf, length);
-    let digest = digest::bytes(answered, reply);
+    let counted = part(buf, length, whole);
+    let digest = digest::bytes(answered, counted);
     Played { controller, digest }
 }
 

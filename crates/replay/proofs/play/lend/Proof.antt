@@ -4,7 +4,7 @@ use Prim.Native.Nat.{_≤_}
 use native.Mathlib.Omega.{arith}
 use lib.ListN.{length}
 use Rattle.machine.specs.Calls.{state}
-use Rattle.replay.proofs.PlayLaws.{reply-room, byte-whole, byte-reply}
+use Rattle.replay.proofs.PlayLaws.{reply-room, byte-part}
 use Rattle.replay.proofs.play.lend.Statement.{statement}
 use Rattle.replay.proofs.play.lend.Tie as tie
 
@@ -28,6 +28,9 @@ cast-mix-2 c = search needs
 mix-requires : tie.Need-mix-requires
 mix-requires c κs = search needs
 
+part-requires : tie.Need-part-requires
+part-requires c κs = search needs
+
 bytes-requires : tie.Need-bytes-requires
 bytes-requires c κs = search needs
 
@@ -39,28 +42,9 @@ returns c =
     let n = c .before .before .before .before in
     let a = n .before .before .before .before in
     let l = a .before .before .before .before .args in
-    λ s h e. byte-whole (state s h) (l .b) (l .buf .now) (l .was .digest) (a .byte .result) (a .byte .last .1 .0) _ _
-    (a .byte .ensures .0 s h e) (a .byte .ensures .1 .0 s h e) (n .mix .ensures) (l .whole)
-    (c .before .before .if1 .taken)
-    (c .bytes .ensures)
-
-front-requires : tie.Need-front-requires
-front-requires c κs = search needs
-
-bytes-requires-2 : tie.Need-bytes-requires-2
-bytes-requires-2 c κs = search needs
-
-same-length-2 : tie.Need-same-length-2
-same-length-2 c = search needs
-
-returns-2 : tie.Need-returns-2
-returns-2 c =
-    let n = c .before .before .before .before .before in
-    let a = n .before .before .before .before in
-    let l = a .before .before .before .before .args in
-    λ s h e. byte-reply (state s h) (l .b) (l .buf .now) (l .was .digest) (a .byte .result) (a .byte .last .1 .0) _ _
+    λ s h e. byte-part (state s h) (l .b) (l .buf .now) (l .was .digest) (a .byte .result) (a .byte .last .1 .0) _ _
     (a .byte .ensures .0 s h e) (a .byte .ensures .1 .0 s h e) (n .mix .ensures) (l .whole) _
-    (c .before .before .before .if1 .left) (a .byte .kept .1 .0) (c .before .front .ensures .0) (c .bytes2 .ensures)
+    (a .byte .kept .1 .0) (c .before .part .ensures) (c .bytes .ensures)
 
 pub lend-spec : {M : Type 1} → statement M
 lend-spec =
@@ -70,10 +54,7 @@ lend-spec =
     cast-mix
     cast-mix-2
     mix-requires
+    part-requires
     bytes-requires
     same-length
-    returns
-    front-requires
-    bytes-requires-2
-    same-length-2
-    returns-2)
+    returns)
