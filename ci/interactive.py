@@ -16,7 +16,9 @@ from io import BytesIO
 from pathlib import Path
 from subprocess import PIPE
 
-SESSIONS = ["bench_protocol", "bench_refusals", "bench_readings", "bench_stops", "bench_dwell"]
+import stored
+
+SESSIONS = ["protocol.in", "refusals.in", "readings.in", "stops.in", "dwell.in"]
 LIMIT = 20  # seconds for a reply
 PAUSE = 0.01  # seconds in which nothing may be printed
 STOPPED = b"bench: stopped, input or output failed\n"
@@ -26,16 +28,16 @@ class Wrong(Exception):
     pass
 
 
-def exchanges(folder):
+def exchanges(name):
     """Each line of a stored session with its reply: none to a silent line, twelve blocks to q 8, else one line."""
-    replies = BytesIO((folder / "stdout").read_bytes()).readlines()
-    for line in BytesIO((folder / "stdin").read_bytes()):
+    replies = BytesIO(stored.answers(name)).readlines()
+    for line in BytesIO(stored.given(name)):
         silent = line[1:2] == b"4" and line[:1] != b"T"
         count = 0 if silent else 12 if line.startswith(b"q08") and replies[0][:1] == b"S" else 1
         yield line, b"".join(replies[:count])
         del replies[:count]
     if replies:
-        raise Wrong(f"{folder}: {len(replies)} stored replies belong to no line")
+        raise Wrong(f"{name}: {len(replies)} stored replies belong to no line")
 
 
 class Bench:
@@ -84,7 +86,7 @@ def sessions(program):
     lines = 0
     for name in SESSIONS:
         bench = Bench(program)
-        *told, (last, end) = exchanges(Path("crates") / name)
+        *told, (last, end) = exchanges(name)
         for line, reply in told:
             lines += 1
             if lines % 7 == 0 and len(line) > 1:

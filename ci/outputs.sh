@@ -1,26 +1,37 @@
 #!/usr/bin/env bash
-# Stored outputs against the reference program: ci/outputs.sh compares, ci/outputs.sh make writes them anew.
-# Each NAME.in has its NAME.out beside it; a program's own test is crates/NAME/stdin and stdout.
+# Stored outputs against the reference's programs: ci/outputs.sh compares, ci/outputs.sh make writes them anew. Each
+# NAME.in has its NAME.out beside it; crates/bench has stdin and stdout; the program vectors prints the answers to all
+# files that its args name.
 set -eu
 cd "$(dirname "$0")/.."
-# The reference program that prints what belongs to an input.
+cargo build --release --offline --quiet --manifest-path reference/Cargo.toml
+# The reference's program for what a file holds: a session, lists or vectors.
 printer() {
     case "$1" in
-        crates/stored_lists/stdin) echo reference/target/release/lists_reference ;;
-        crates/stored_host/stdin) echo reference/target/release/host_reference ;;
-        *) echo reference/target/release/bench_reference ;;
+        session) echo reference/target/release/bench_reference ;;
+        lists) echo reference/target/release/lists_reference ;;
+        vectors) echo reference/target/release/host_reference ;;
     esac
 }
-cargo build --release --offline --quiet --manifest-path reference/Cargo.toml
-for input in docs/*.in reference/data/*.in crates/*/stdin; do
-    case "$input" in
-        *.in) output="${input%.in}.out" ;;
-        *) output="${input%stdin}stdout" ;;
+# What the program vectors must print: of each file its name and its answers.
+all_answers() {
+    while read -r what && read -r name; do
+        echo "# $name"
+        "$(printer "$what")" < "crates/vectors/data/$name"
+    done < crates/vectors/args
+}
+# What belongs in a stored output.
+printed() {
+    case "$1" in
+        crates/vectors/stdout) all_answers ;;
+        crates/bench/stdout) "$(printer session)" < crates/bench/stdin ;;
+        *) "$(printer session)" < "${1%.out}.in" ;;
     esac
-    program=$(printer "$input")
+}
+for output in docs/*.out reference/data/*.out crates/*/stdout; do
     if [ "${1:-}" = make ]; then
-        "$program" < "$input" > "$output"
-    elif ! "$program" < "$input" | cmp -s - "$output"; then
+        printed "$output" > "$output"
+    elif ! printed "$output" | cmp -s - "$output"; then
         echo "outputs: $output is not what the reference prints"
         exit 1
     fi

@@ -1,5 +1,5 @@
 #!/usr/bin/env python3
-"""Checks docs/PROTOCOL.md against the stored test of the program bench_protocol: ci/protocol.py [repository root]
+"""Checks docs/PROTOCOL.md against the stored session protocol.in: ci/protocol.py
 
 The page's last block is that session, `> ` a request and `< ` each line of its reply. A row of a table that ends in a
 request and a reply must stand in it as such, and so must each status. Exit 1, naming what does not.
@@ -7,6 +7,8 @@ request and a reply must stand in it as such, and so must each status. Exit 1, n
 import re
 import sys
 from pathlib import Path
+
+import stored
 
 ROW = re.compile(r"\| `([^`]+)` \| `([^`]+)` \|$")
 STATUS = re.compile(r"\| `(S06[0-9A-F]{5})`[^|]*\|$")
@@ -24,15 +26,13 @@ def exchanges(lines):
 
 
 def main():
-    root = Path(sys.argv[1] if len(sys.argv) > 1 else ".")
-    page = (root / "docs/PROTOCOL.md").read_text(encoding="utf-8")
+    page = (Path(__file__).resolve().parent.parent / "docs/PROTOCOL.md").read_text(encoding="utf-8")
     told = exchanges(page.split("```session\n")[1].split("```")[0].splitlines())
     wrong = []
-    stored = root / "crates/bench_protocol"
-    if "".join(request + "\n" for request, _ in told) != (stored / "stdin").read_text(encoding="utf-8"):
-        wrong.append("the requests are not crates/bench_protocol/stdin")
-    if "".join(line + "\n" for _, reply in told for line in reply) != (stored / "stdout").read_text(encoding="utf-8"):
-        wrong.append("the replies are not crates/bench_protocol/stdout")
+    if "".join(request + "\n" for request, _ in told).encode() != stored.given("protocol.in"):
+        wrong.append("the requests are not crates/vectors/data/protocol.in")
+    if "".join(line + "\n" for _, reply in told for line in reply).encode() != stored.answers("protocol.in"):
+        wrong.append("the replies are not those stored for protocol.in")
     pairs = {(request, line) for request, reply in told for line in reply}
     rows = 0
     for number, line in enumerate(page.splitlines(), 1):

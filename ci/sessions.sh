@@ -4,17 +4,22 @@
 # It runs target/bin/bench, which `rt check bench` proves and builds.
 set -eu
 cd "$(dirname "$0")/.."
-for input in docs/*.in crates/bench*/stdin; do
-    case "$input" in
-        *.in) output="${input%.in}.out" ;;
-        *) output="${input%stdin}stdout" ;;
+# The replies that are stored for a session.
+replies() {
+    case "$1" in
+        crates/bench/stdin) cat crates/bench/stdout ;;
+        crates/vectors/*) python3 ci/stored.py "$(basename "$1")" ;;
+        *) cat "${1%.in}.out" ;;
     esac
-    if ! target/bin/bench < "$input" | cmp -s - "$output"; then
-        echo "sessions: $input: the bench program prints something else than $output"
+}
+sessions=$(sed -n '/^session$/{n;s,^,crates/vectors/data/,p}' crates/vectors/args)
+for input in docs/*.in crates/bench/stdin $sessions; do
+    if ! target/bin/bench < "$input" | cmp -s - <(replies "$input"); then
+        echo "sessions: $input: the bench program prints something else than is stored"
         exit 1
     fi
-    if ! dd if="$input" bs=7 2> /dev/null | target/bin/bench | cmp -s - "$output"; then
-        echo "sessions: $input in pieces: the bench program prints something else than $output"
+    if ! dd if="$input" bs=7 2> /dev/null | target/bin/bench | cmp -s - <(replies "$input"); then
+        echo "sessions: $input in pieces: the bench program prints something else than is stored"
         exit 1
     fi
 done

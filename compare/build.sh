@@ -3,6 +3,6 @@
 # compares them with the reference. Says nothing unless something fails.
 set -eu
 cd "$(dirname "$0")/.."
-said=$(rt check bench stored_host 2>&1) || { echo "$said"; exit 2; }
+said=$(rt check bench vectors 2>&1) || { echo "$said"; exit 2; }
 said=$(rt staticlib replay 2>&1) || { echo "$said"; exit 2; }
 cargo build --release --offline --quiet --manifest-path compare/Cargo.toml || exit 2

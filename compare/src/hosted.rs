@@ -47,7 +47,7 @@ fn report(batch: Batch, lines: &[Vec<u8>], proved: &[String], reference: &[Strin
         return format!("DIFFERENCE: seed {seed}, batch {index}: {} and {} lines", proved.len(), reference.len());
     };
     format!(
-        "DIFFERENCE: seed {seed}, batch {index}, line {}: {}\nstored_host: {}\nreference:   {}",
+        "DIFFERENCE: seed {seed}, batch {index}, line {}: {}\nproved:    {}\nreference: {}",
         at + 1,
         lines[at].escape_ascii(),
         shown(proved, at),
@@ -59,7 +59,7 @@ fn report(batch: Batch, lines: &[Vec<u8>], proved: &[String], reference: &[Strin
 pub fn compare(places: &Places, batch: Batch, name: &str) -> Result<Answers, String> {
     let lines = lines_of(batch);
     let text = text_of(&lines);
-    let proved = printed(&program::output(&places.host, &places.folder.join(name), &text));
+    let proved = printed(&program::output(&places.host, &["vectors", "-"], &places.folder.join(name), &text));
     let reference = printed(&reference_output(&text));
     if proved != reference || reference.len() != lines.len() {
         return Err(report(batch, &lines, &proved, &reference));

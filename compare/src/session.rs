@@ -38,7 +38,7 @@ pub fn text_of(session: Session) -> (Vec<u8>, Coverage) {
 
 /// What the proved program prints.
 fn proved_output(places: &Places, text: &[u8], name: &str) -> Vec<u8> {
-    program::output(&places.bench, &places.folder.join(name), text)
+    program::output(&places.bench, &[], &places.folder.join(name), text)
 }
 
 /// What the reference prints.

@@ -144,11 +144,11 @@ fn main() {
     let wish = wish();
     let places = Places {
         bench: PathBuf::from("target/bin/bench"),
-        host: PathBuf::from("target/bin/stored_host"),
+        host: PathBuf::from("target/bin/vectors"),
         folder: PathBuf::from("target/compare"),
     };
     if !places.bench.is_file() || !places.host.is_file() {
-        eprintln!("a proved program is absent: run `rt check bench stored_host` first\n{USAGE}");
+        eprintln!("a proved program is absent: run `rt check bench vectors` first\n{USAGE}");
         exit(2);
     }
     std::fs::create_dir_all(&places.folder).expect("target/compare can be made");

@@ -89,7 +89,7 @@ fn run(program: &str, input: &Path) -> Cost {
 /// Writes an input; both programs print the same on it, or their figures would tell nothing.
 fn written(at: usize, input: &[u8]) -> PathBuf {
     let file = Path::new("target/compare").join(format!("speed-{at}.in"));
-    let [ours, theirs] = PROGRAMS.map(|(_, program)| program::output(Path::new(program), &file, input));
+    let [ours, theirs] = PROGRAMS.map(|(_, program)| program::output(Path::new(program), &[], &file, input));
     assert!(ours == theirs, "the programs print two things on {}", file.display());
     file
 }

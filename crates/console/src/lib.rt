@@ -1,35 +1,16 @@
-// What every bench program runs (paper 01, "Host end and program"): reads standard input to its end, and writes what
-// the bytes of a read print, at once, before it reads on. What the bytes do is the proved work of `session`; here they
-// are read, and what is printed is written out. The bytes that a read brings are all taken, each once and in order.
-// Assumes nothing beyond the contracts of the C functions that read and write.
+// What the bench program does with the bytes of a read (paper 01, "Host end and program"): all are taken, each once and
+// in order, and what they print is written at once. What the bytes do is the proved work of `session`; here what is
+// printed is written out. Assumes nothing beyond the contract of the C function that writes.
 ghost use Prim.Native.Nat.{_+_, _≤_};
 ghost use mathlib.Core.Path.{_≡_};
 ghost use lib.ListN.{length};
 ghost use Rattle.session.specs.Lines.{after};
 ghost use Rattle.session.specs.Session.{taken, heldBench, Running, Runs};
-use libc::STDERR_FILENO;
-use libc::STDIN_FILENO;
 use libc::STDOUT_FILENO;
 use session::Session;
 
 // Where the output buffer of a read, 65,536 bytes, has 120 bytes left.
 const ROOM: usize = 65416;
-
-// What is to be done after a read.
-enum Next {
-    // Read on.
-    Read,
-    // End the last line, which may lack its line feed: the input has ended.
-    Finish,
-    // Stop as it is: the input cannot be read, or the output takes no more.
-    Stop,
-}
-
-// The session after a read, and what is to be done next.
-struct Turn {
-    session: Session,
-    next: Next,
-}
 
 // The session after some bytes, and the length of what they print.
 struct Printed {
@@ -44,9 +25,9 @@ struct Waiting {
 }
 
 // The session after the bytes of a read, and whether the output took all that they print.
-struct Passed {
-    session: Session,
-    written: bool,
+pub struct Passed {
+    pub session: Session,
+    pub written: bool,
 }
 
 // Writes the front part of a buffer, and answers whether the output took it. Once it has failed nothing more is
@@ -87,7 +68,7 @@ fn pass_byte(s: Session, out: &mut [u8], at: usize, b: u8) -> Printed
 }
 
 // The bytes of a read. What they print is written at once; in parts only where it is longer than the buffer.
-fn pass_all(s: Session, bytes: &[u8]) -> Passed
+pub fn pass_all(s: Session, bytes: &[u8]) -> Passed
     requires { ⌜ Running s ⌝ }
     ensures { λ r. ⌜ Running (r .session) ⌝ }
     ensures { λ r. ⌜ Runs s (λ x. r .session ≡ heldBench (after x (now (bytes .entry)))) ⌝ }
@@ -112,95 +93,4 @@ fn pass_all(s: Session, bytes: &[u8]) -> Passed
     }
     let written = print(waiting.written, &out, waiting.length);
     Passed { session, written }
-}
-
-// Reads once, and takes what came.
-fn read_once(s: Session) -> Turn
-    requires { ⌜ Running s ⌝ }
-    ensures { λ r. ⌜ Running (r .session) ⌝ }
-{
-    let mut buf = io::buffer();
-    let got = libc::read(STDIN_FILENO, &mut buf);
-    if got < 0 {
-        return Turn {
-            session: s,
-            next: Next::Stop,
-        };
-    }
-    if got == 0 {
-        return Turn {
-            session: s,
-            next: Next::Finish,
-        };
-    }
-    let n = io::count(got, &buf);
-    let passed = pass_all(s, &buf[..n]);
-    let session = passed.session;
-    if passed.written {
-        return Turn {
-            session,
-            next: Next::Read,
-        };
-    }
-    Turn {
-        session,
-        next: Next::Stop,
-    }
-}
-
-// Reads until nothing is left to read. A proved loop has to end, and nothing says that the input does: the turns are
-// counted down from a number that no run uses up.
-fn read_all(s: Session) -> Turn
-    requires { ⌜ Running s ⌝ }
-    ensures { λ r. ⌜ Running (r .session) ⌝ }
-{
-    let mut session = s;
-    let mut turns = u64::MAX;
-    while 0 < turns {
-        let turn = read_once(session);
-        let next = turn.next;
-        match next {
-            Next::Read => {
-                let read = turn.session;
-                session = read;
-                turns -= 1;
-            }
-            Next::Finish => {
-                return turn;
-            }
-            Next::Stop => {
-                return turn;
-            }
-        }
-    }
-    Turn {
-        session,
-        next: Next::Stop,
-    }
-}
-
-// The end of the input.
-fn finish(s: Session) -> bool
-    requires { ⌜ Running s ⌝ }
-{
-    let mut buf = [0u8; 120];
-    let taken = s.finish(&mut buf);
-    print(true, &buf, taken.length)
-}
-
-// Power-on with switch 0, the whole input, and its end. A program has no exit status of its own, so a word on standard
-// error says that it stopped before the end.
-pub fn run() {
-    let start = Session::new();
-    let turn = read_all(start);
-    let session = turn.session;
-    let next = turn.next;
-    let done = match next {
-        Next::Finish => finish(session),
-        Next::Read => false,
-        Next::Stop => false,
-    };
-    if !done {
-        io::write_all(STDERR_FILENO, b"bench: stopped, input or output failed\n");
-    }
 }

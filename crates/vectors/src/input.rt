@@ -1,9 +1,8 @@
-// Standard input, line by line: each is given to the program that runs.
+// A file, line by line: each is given to the program that runs.
 use crate::host_end;
 use crate::lists;
 use crate::lists::List;
 use crate::text;
-use libc::STDIN_FILENO;
 
 // The line feed, which ends a line.
 const FEED: u8 = 10;
@@ -89,9 +88,9 @@ fn take_all(program: Program, was: Stand, calls: &mut [u8; lists::ROOM], bytes: 
 }
 
 // Reads once, and takes what came.
-fn read_once(program: Program, stand: Stand, calls: &mut [u8; lists::ROOM]) -> Turn {
+fn read_once(program: Program, file: i32, stand: Stand, calls: &mut [u8; lists::ROOM]) -> Turn {
     let mut buf = io::buffer();
-    let got = libc::read(STDIN_FILENO, &mut buf);
+    let got = libc::read(file, &mut buf);
     if got <= 0 {
         return Turn { stand, more: false };
     }
@@ -105,11 +104,11 @@ fn read_once(program: Program, stand: Stand, calls: &mut [u8; lists::ROOM]) -> T
 
 // Reads to the end. A proved loop has to end, and nothing says that the input does: the turns are counted down from a
 // number that no run uses up.
-fn read_all(program: Program, was: Stand, calls: &mut [u8; lists::ROOM]) -> Stand {
+fn read_all(program: Program, file: i32, was: Stand, calls: &mut [u8; lists::ROOM]) -> Stand {
     let mut stand = was;
     let mut turns = u64::MAX;
     while 0 < turns {
-        let t = read_once(program, stand, calls);
+        let t = read_once(program, file, stand, calls);
         let next = t.stand;
         stand = next;
         turns -= 1;
@@ -121,7 +120,7 @@ fn read_all(program: Program, was: Stand, calls: &mut [u8; lists::ROOM]) -> Stan
 }
 
 // The whole input; its last line may lack the line feed.
-pub(crate) fn run(program: Program) {
+pub(crate) fn run(program: Program, file: i32) {
     let mut calls = [0u8; lists::ROOM];
     let list = List {
         count: 0,
@@ -133,6 +132,6 @@ pub(crate) fn run(program: Program) {
         chars: [0; LONGEST],
         length: 0,
     };
-    let stand = read_all(program, fresh, &mut calls);
+    let stand = read_all(program, file, fresh, &mut calls);
     end_line(program, stand, &mut calls);
 }

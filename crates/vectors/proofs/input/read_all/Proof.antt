@@ -4,10 +4,10 @@ use Rattle.vectors.proofs.input.read_all.Statement.{statement}
 use Rattle.vectors.proofs.input.read_all.Tie as tie
 
 abbrev Inv-loop : tie.InvT-loop
-Inv-loop program calls₀ stand₀ turns₀ calls stand turns = Unit {0}
+Inv-loop program file calls₀ stand₀ turns₀ calls stand turns = Unit {0}
 
 abbrev μ-loop : tie.MeasureT-loop
-μ-loop program calls₀ stand₀ turns₀ calls stand turns = turns
+μ-loop program file calls₀ stand₀ turns₀ calls stand turns = turns
 
 loop-holds : tie.Need-loop-holds Inv-loop μ-loop
 loop-holds c = search needs

@@ -3,8 +3,8 @@
 use borrow.Author.Needs.{needs}
 use native.Mathlib.Omega.{arith}
 use Rattle.session.specs.Session.{Running}
-use Rattle.console.proofs.read_all.Statement.{statement}
-use Rattle.console.proofs.read_all.Tie as tie
+use Rattle.bench.proofs.read_all.Statement.{statement}
+use Rattle.bench.proofs.read_all.Tie as tie
 
 abbrev Inv-loop : tie.InvT-loop
 Inv-loop session₀ turns₀ session turns = Running session
