@@ -1,2 +1,3 @@
 mod DigestLaws
+mod AnswerLaws
 mod PlayLaws

@@ -4,8 +4,8 @@
 ghost use Prim.Native.Nat.{_+_, _≤_};
 ghost use mathlib.Core.Path.{_≡_};
 ghost use lib.ListN.{length};
-ghost use Rattle.controller.specs.Reach.{Reachable, Made};
-ghost use Rattle.replay.specs.Replay.{seen, heldSeen, begun, called, wordAt, replayed};
+ghost use Rattle.controller.specs.Reach.{Reachable};
+ghost use Rattle.replay.specs.Replay.{heldSeen, Plays, begun, called, wordAt, replayed};
 use crate::play::Played;
 
 mod digest;
@@ -45,7 +45,7 @@ fn word_at(calls: &[u8], at: usize) -> u32
 
 // Power-on.
 fn begin(switch: u8) -> Played
-    ensures { λ r. ⌜ r ≡ heldSeen (begun switch) ⌝ }
+    ensures { λ r. ⌜ r ≡ heldSeen switch (begun switch) ⌝ }
 {
     let on = controller::power_on(switch);
     let digest = digest::mix(0, wide(on.number), 0, 0);
@@ -56,7 +56,7 @@ fn begin(switch: u8) -> Played
 // One call of the list.
 fn call(was: Played, kind: u8, value: u32, count: u32) -> Played
     requires { ⌜ Reachable (was .controller) ⌝ }
-    ensures { λ r. ⌜ Made (was .controller) (λ m. r ≡ heldSeen (called kind value count (seen m (was .digest)))) ⌝ }
+    ensures { λ r. ⌜ Plays was r (λ s. called s kind value count) ⌝ }
 {
     if kind == TICKS {
         return play::ticks(was, value, count);

@@ -4,8 +4,8 @@ ghost use mathlib.Core.Bool.{cond};
 ghost use mathlib.Core.Path.{_≡_};
 ghost use lib.ListN.{length, replicate};
 ghost use Rattle.block.specs.Block.{frontOf};
-ghost use Rattle.controller.specs.Reach.{Reachable, Made};
-ghost use Rattle.replay.specs.Replay.{seen, heldSeen, ticked, ticks, sent, read};
+ghost use Rattle.controller.specs.Reach.{Reachable};
+ghost use Rattle.replay.specs.Replay.{Plays, ticked, ticks, sent, read};
 use crate::digest;
 use controller::Controller;
 
@@ -18,7 +18,7 @@ pub(crate) struct Played {
 // One tick.
 fn tick(was: Played, word: u32) -> Played
     requires { ⌜ Reachable (was .controller) ⌝ }
-    ensures { λ r. ⌜ Made (was .controller) (λ m. r ≡ heldSeen (ticked word (seen m (was .digest)))) ⌝ }
+    ensures { λ r. ⌜ Plays was r (λ s. ticked s word) ⌝ }
 {
     let before = was.controller;
     let a = before.tick(word);
@@ -33,7 +33,7 @@ fn tick(was: Played, word: u32) -> Played
 // compiler can make it a part of this loop.
 pub(crate) fn ticks(was: Played, word: u32, count: u32) -> Played
     requires { ⌜ Reachable (was .controller) ⌝ }
-    ensures { λ r. ⌜ Made (was .controller) (λ m. r ≡ heldSeen (ticks count word (seen m (was .digest)))) ⌝ }
+    ensures { λ r. ⌜ Plays was r (λ s. ticks s count word) ⌝ }
 {
     let mut played = was;
     let mut i = 0;
@@ -59,7 +59,7 @@ fn part(buf: &[u8], n: usize, whole: bool) -> &[u8]
 fn lend(was: Played, buf: &mut [u8], b: u8, whole: bool) -> Played
     requires { ⌜ Reachable (was .controller) ⌝ }
     requires { ⌜ length (now buf) ≤ 255 ⌝ }
-    ensures { λ r. ⌜ Made (was .controller) (λ m. r ≡ heldSeen (sent b whole (now (buf .entry)) (seen m (was .digest)))) ⌝ }
+    ensures { λ r. ⌜ Plays was r (λ s. sent s b whole (now (buf .entry))) ⌝ }
 {
     let before = was.controller;
     let a = before.byte(buf, b);
@@ -75,7 +75,7 @@ fn lend(was: Played, buf: &mut [u8], b: u8, whole: bool) -> Played
 pub(crate) fn send(was: Played, b: u8, room: usize, whole: bool) -> Played
     requires { ⌜ Reachable (was .controller) ⌝ }
     requires { ⌜ room ≤ 255 ⌝ }
-    ensures { λ r. ⌜ Made (was .controller) (λ m. r ≡ heldSeen (sent b whole (replicate room 0) (seen m (was .digest)))) ⌝ }
+    ensures { λ r. ⌜ Plays was r (λ s. sent s b whole (replicate room 0)) ⌝ }
 {
     let mut buf = [0u8; 255];
     lend(was, &mut buf[..room], b, whole)
@@ -84,7 +84,7 @@ pub(crate) fn send(was: Played, b: u8, room: usize, whole: bool) -> Played
 // The readings: travels, positions, status, speed and slope.
 pub(crate) fn read(was: Played) -> Played
     requires { ⌜ Reachable (was .controller) ⌝ }
-    ensures { λ r. ⌜ Made (was .controller) (λ m. r ≡ heldSeen (read (seen m (was .digest)))) ⌝ }
+    ensures { λ r. ⌜ Plays was r read ⌝ }
 {
     let controller = was.controller;
     let travels = controller.travels();

@@ -1,6 +1,6 @@
 -- Power-on, its number mixed into 0. Assumes nothing.
 use borrow.Author.Needs.{needs}
-use Rattle.replay.proofs.PlayLaws.{begun-is}
+use Rattle.replay.proofs.AnswerLaws.{begun-is}
 use Rattle.replay.proofs.begin.Statement.{statement}
 use Rattle.replay.proofs.begin.Tie as tie
 

@@ -1,7 +1,6 @@
 -- A call by its kind. Assumes nothing.
 use borrow.Author.Needs.{needs}
 use mathlib.Core.Path.{ap, _∙_}
-use Rattle.machine.specs.Calls.{state}
 use Rattle.replay.specs.Replay.{seen, heldSeen}
 use Rattle.replay.proofs.PlayLaws.{call-ticks, call-byte, call-read}
 use Rattle.replay.proofs.call.Statement.{statement}
@@ -14,7 +13,7 @@ returns : tie.Need-returns
 returns c =
     let l = c .before .before .args in
     λ s h e. c .ticks .ensures s h e
-    ∙ ap heldSeen (call-ticks (l .kind) (l .value) (l .count) (seen (state s h) (l .was .digest))
+    ∙ ap (heldSeen s) (call-ticks s (l .kind) (l .value) (l .count) (seen h (l .was .digest))
     (c .before .if1 .taken))
 
 cast-send : tie.Need-cast-send
@@ -30,7 +29,7 @@ returns-2 : tie.Need-returns-2
 returns-2 c =
     let l = c .before .before .before .args in
     λ s h e. c .send .ensures s h e
-    ∙ ap heldSeen (call-byte (l .kind) (l .value) (l .count) (seen (state s h) (l .was .digest))
+    ∙ ap (heldSeen s) (call-byte s (l .kind) (l .value) (l .count) (seen h (l .was .digest))
     (c .before .before .if1 .left) (c .before .if2 .taken))
 
 read-requires : tie.Need-read-requires
@@ -40,7 +39,7 @@ returns-3 : tie.Need-returns-3
 returns-3 c =
     let l = c .before .before .before .args in
     λ s h e. c .read .ensures s h e
-    ∙ ap heldSeen (call-read (l .kind) (l .value) (l .count) (seen (state s h) (l .was .digest))
+    ∙ ap (heldSeen s) (call-read s (l .kind) (l .value) (l .count) (seen h (l .was .digest))
     (c .before .before .if1 .left) (c .before .if2 .left))
 
 pub call-spec : {M : Type 1} → statement M

@@ -11,7 +11,7 @@ use Rattle.replay.proofs.temixohuel_replay.Tie as tie
 
 abbrev Inv-loop : tie.InvT-loop
 Inv-loop switch calls n played₀ j₀ played j =
-    (j ≤ n) × (n ≡ length calls / 9) × (played ≡ heldSeen (seenAfter switch calls j))
+    (j ≤ n) × (n ≡ length calls / 9) × (played ≡ heldSeen switch (seenAfter switch calls j))
 
 abbrev μ-loop : tie.MeasureT-loop
 μ-loop switch calls n played₀ j₀ played j = n - j

@@ -4,7 +4,7 @@ use Prim.Native.Nat.{_≤_}
 use native.Mathlib.Omega.{arith}
 use lib.ListN.{length}
 use Rattle.machine.specs.Calls.{state}
-use Rattle.replay.proofs.PlayLaws.{reply-room, byte-part}
+use Rattle.replay.proofs.AnswerLaws.{reply-room, byte-part}
 use Rattle.replay.proofs.play.lend.Statement.{statement}
 use Rattle.replay.proofs.play.lend.Tie as tie
 
@@ -42,7 +42,7 @@ returns c =
     let n = c .before .before .before .before in
     let a = n .before .before .before .before in
     let l = a .before .before .before .before .args in
-    λ s h e. byte-part (state s h) (l .b) (l .buf .now) (l .was .digest) (a .byte .result) (a .byte .last .1 .0) _ _
+    λ s h e. byte-part s h (l .b) (l .buf .now) (l .was .digest) (a .byte .result) (a .byte .last .1 .0) _ _
     (a .byte .ensures .0 s h e) (a .byte .ensures .1 .0 s h e) (n .mix .ensures) (l .whole) _
     (a .byte .kept .1 .0) (c .before .part .ensures) (c .bytes .ensures)
 

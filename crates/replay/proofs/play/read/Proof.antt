@@ -1,7 +1,6 @@
--- The readings, on every machine so held. Assumes nothing.
+-- The readings, after every list of calls that leaves the controller. Assumes nothing.
 use borrow.Author.Needs.{needs}
-use Rattle.machine.specs.Calls.{state}
-use Rattle.replay.proofs.PlayLaws.{read-is}
+use Rattle.replay.proofs.AnswerLaws.{read-is}
 use Rattle.replay.proofs.play.read.Statement.{statement}
 use Rattle.replay.proofs.play.read.Tie as tie
 
@@ -34,7 +33,7 @@ returns c =
     let l = c .before .before .before .before .before .before .before .before in
     let ts = c .before .before .before .before .before .before .travels in
     let ps = c .before .before .before .before .before .positions in
-    λ s h e. read-is (state s h) _ (l .args .was .digest) (ts .result) (ps .result) _ _ _ _ _ e (ts .ensures s h e)
+    λ s h e. read-is s h _ (l .args .was .digest) (ts .result) (ps .result) _ _ _ _ _ e (ts .ensures s h e)
     (ps .ensures .0 s h e) (c .before .before .before .status .ensures s h e) (c .before .before .speed .ensures s h e)
     (c .before .slope .ensures s h e) (c .before .before .before .before .axes .ensures) (c .mix .ensures)
 

@@ -2,9 +2,8 @@
 use native.Mathlib.Omega.{arith}
 use borrow.Author.Needs.{needs}
 use mathlib.Core.Path.{sym, ap, _∙_}
-use Rattle.machine.specs.Calls.{state}
 use Rattle.replay.specs.Replay.{seen, heldSeen, sent}
-use Rattle.replay.proofs.PlayLaws.{take-zeros, zeros-length}
+use Rattle.replay.proofs.AnswerLaws.{take-zeros, zeros-length}
 use Rattle.replay.proofs.play.send.Statement.{statement}
 use Rattle.replay.proofs.play.send.Tie as tie
 
@@ -23,7 +22,7 @@ returns : tie.Need-returns
 returns c =
     let l = c .before .before .before in
     λ s h e. c .before .lend .ensures s h e
-    ∙ ap (λ d. heldSeen (sent (l .args .b) (l .args .whole) d (seen (state s h) (l .args .was .digest))))
+    ∙ ap (λ d. heldSeen s (sent s (l .args .b) (l .args .whole) d (seen h (l .args .was .digest))))
     (take-zeros (l .args .room) 255 (l .pre .1))
 
 pub send-spec : {M : Type 1} → statement M

@@ -1,7 +1,6 @@
--- A tick, on every machine so held. Assumes nothing.
+-- A tick, after every list of calls that leaves the controller. Assumes nothing.
 use borrow.Author.Needs.{needs}
-use Rattle.machine.specs.Calls.{state}
-use Rattle.replay.proofs.PlayLaws.{tick-is}
+use Rattle.replay.proofs.AnswerLaws.{tick-is}
 use Rattle.replay.proofs.play.tick.Statement.{statement}
 use Rattle.replay.proofs.play.tick.Tie as tie
 
@@ -18,7 +17,7 @@ returns : tie.Need-returns
 returns c =
     let l = c .before .before .before .before .before .before in
     let a = c .before .before .before .before .tick in
-    λ s h e. tick-is (state s h) (l .args .word) (l .args .was .digest) (a .result) _ _ (a .ensures .0 s h e)
+    λ s h e. tick-is s h (l .args .word) (l .args .was .digest) (a .result) _ _ (a .ensures .0 s h e)
     (c .before .before .tick-code .ensures) (c .before .mix .ensures)
 
 pub tick-spec : {M : Type 1} → statement M

@@ -1,9 +1,9 @@
--- So many ticks. The invariant: the controller and the digest are those of the ticks so far, on every machine so held.
+-- So many ticks. The invariant: the controller and the digest are those of the ticks so far, after every list of
+-- calls that leaves the first controller.
 -- The measure is the ticks left. Assumes nothing.
 use Prim.Native.Nat.{_-_, _≤_}
 use native.Mathlib.Omega.{arith}
 use mathlib.Core.Path.{_≡_, ap, _∙_}
-use Rattle.machine.specs.Calls.{state}
 use Rattle.controller.specs.Reach.{Reachable}
 use Rattle.replay.specs.Replay.{seen, heldSeen, ticks}
 use Rattle.replay.proofs.PlayLaws.{Ticking, tick-none, tick-reach, tick-next}
@@ -46,7 +46,7 @@ returns c =
     let s = c .before .before in
     let l = c .before .loop in
     let n : l .i ≡ s .args .count = omega arith in
-    λ w h e. l .inv .2 w h e ∙ ap (λ k. heldSeen (ticks k (s .args .word) (seen (state w h) (s .args .was .digest)))) n
+    λ w h e. l .inv .2 w h e ∙ ap (λ k. heldSeen w (ticks w k (s .args .word) (seen h (s .args .was .digest)))) n
 
 pub ticks-spec : {M : Type 1} → statement M
 ticks-spec =

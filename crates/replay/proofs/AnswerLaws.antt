@@ -1,0 +1,106 @@
+-- What one call answers, mixed in: the held machine's answer, after the calls so far. Assumes nothing.
+use Prim.Native.Nat.{ℕ, zero, suc, _≤_}
+use native.Mathlib.Omega.{arith}
+use mathlib.Core.Bool.{Bool, true, false, cond}
+use mathlib.Core.List.{List, _∷_}
+use mathlib.Core.Path.{_≡_, refl, sym, ap, subst, _∙_}
+use lib.ListN.{length, take, drop, replicate, length-append, length-replicate}
+use Rattle.laws.specs.Axes.{each}
+use Rattle.block.specs.Block.{over, frontOf}
+use Rattle.block.proofs.Buffers.{front-over}
+use Rattle.reply.specs.declared.Travel.{Travel}
+use Rattle.reply.specs.declared.Position.{Position}
+use Rattle.machine.specs.State.{Machine}
+use Rattle.machine.specs.Stops.{status}
+use Rattle.machine.specs.Steps.{byteStep, tickStep, bufferAfter}
+use Rattle.machine.specs.Calls.{Call, run, state}
+use Rattle.controller.specs.declared.Controller.{Controller}
+use Rattle.controller.specs.declared.PowerOn.{PowerOn}
+use Rattle.controller.specs.declared.ByteAnswer.{ByteAnswer}
+use Rattle.controller.specs.declared.TickAnswer.{TickAnswer}
+use Rattle.controller.specs.Held.{held, heldPower, heldByte, heldTick, heldTravel, heldPosition}
+use Rattle.replay.specs.declared.play.Played.{Played}
+use Rattle.replay.specs.Digest.{mixed, tickCode, atAxis, mixedBytes, mixedAxes, travelAt, placeAt}
+use Rattle.replay.specs.Replay.{seen, begun, ticked, sent, read, heldSeen}
+
+pub begun-is : (s : ℕ) (on : PowerOn) (n r : ℕ) → on ≡ heldPower s → n ≡ on .number → r ≡ mixed 0 n 0 0
+    → _≡_ {A = Played} (record { controller = on .controller; digest = r }) (heldSeen s (begun s))
+unfolding run
+begun-is s on n r e p q = λ i. record {
+  controller = e i .controller;
+  digest = (q ∙ ap (λ (x : ℕ). mixed 0 x 0 0) (p ∙ ap (λ (x : PowerOn). x .number) e)) i;
+}
+
+pub tick-is : (s : ℕ) (h : List Call) (w g : ℕ) (a : TickAnswer) (n r : ℕ) → a ≡ heldTick (tickStep (state s h) w)
+    → n ≡ tickCode (atAxis (a .pulses)) (a .number) → r ≡ mixed g (a .first) (a .second) n
+    → _≡_ {A = Played} (record { controller = a .controller; digest = r }) (heldSeen s (ticked s w (seen h g)))
+unfolding tickCode run
+tick-is s h w g a n r e p q = λ i. record {
+  controller = e i .controller;
+  digest = (q ∙ (λ j. mixed g (e j .first) (e j .second) (code j))) i;
+}
+  where
+    code : n ≡ tickCode (tickStep (state s h) w .pulse) (tickStep (state s h) w .number)
+    code = p ∙ ap (λ (x : TickAnswer). tickCode (atAxis (x .pulses)) (x .number)) e
+
+-- A reply that leaves a buffer as long as it was is no longer than the buffer.
+pub reply-room : (m : Machine) (b : ℕ) (d : List ℕ) (a : ByteAnswer) (x : List ℕ) → a ≡ heldByte (byteStep m b d)
+    → x ≡ bufferAfter (byteStep m b d) d → length x ≡ length d → a .length ≤ length d
+unfolding over
+reply-room m b d a x e l k =
+    let reply = byteStep m b d .reply in
+    omega (
+      arith,
+      ap (λ (y : ByteAnswer). y .length) e,
+      ap length l,
+      length-append reply (drop (length reply) d),
+    )
+
+module _ (s : ℕ) (h : List Call) (b : ℕ) (d : List ℕ) (g : ℕ) (a : ByteAnswer) (x : List ℕ) (n r : ℕ)
+    (e : a ≡ heldByte (byteStep (state s h) b d)) (l : x ≡ bufferAfter (byteStep (state s h) b d) d)
+    (p : n ≡ mixed g (a .length) (a .number) 0) where
+  answered : n ≡ mixed g (length (byteStep (state s h) b d .reply)) (byteStep (state s h) b d .number) 0
+  answered = p ∙ ap (λ (y : ByteAnswer). mixed g (y .length) (y .number) 0) e
+
+  -- The whole buffer counts, or its front part, which is the reply.
+  pub byte-part : (whole : Bool) (y : List ℕ) → length x ≡ length d → y ≡ cond whole x (frontOf x (a .length))
+      → r ≡ mixedBytes n y
+      → _≡_ {A = Played} (record { controller = a .controller; digest = r }) (heldSeen s (sent s b whole d (seen h g)))
+  unfolding run
+  byte-part true y k f q = λ i. record {
+    controller = e i .controller;
+    digest = (q ∙ (λ j. mixedBytes (answered j) ((f ∙ l) j))) i;
+  }
+  byte-part false y k f q = λ i. record {
+    controller = e i .controller;
+    digest = (q ∙ (λ j. mixedBytes (answered j) ((f ∙ front) j))) i;
+  }
+    where
+      room : a .length ≤ length d
+      room = reply-room (state s h) b d a x e l k
+
+      front : frontOf x (a .length) ≡ byteStep (state s h) b d .reply
+      front =
+          (λ i. frontOf (l i) (e i .length))
+          ∙ front-over (byteStep (state s h) b d .reply) d (subst (λ (y : ByteAnswer). y .length ≤ length d) e room)
+
+pub read-is : (s : ℕ) (h : List Call) (c : Controller) (g : ℕ) (ts : List Travel) (ps : List Position)
+    (n u v a r : ℕ) → held (state s h) ≡ c → ts ≡ each (heldTravel (state s h)) → ps ≡ each (heldPosition (state s h))
+    → u ≡ status (state s h) → v ≡ state s h .settings .speed → a ≡ state s h .settings .slope
+    → n ≡ mixedAxes (travelAt ts) (placeAt ps) g 5 → r ≡ mixed n u v a
+    → _≡_ {A = Played} (record { controller = c; digest = r }) (heldSeen s (read s (seen h g)))
+unfolding mixedAxes
+read-is s h c g ts ps n u v a r e t p eu ev ea en er = λ i. record {
+  controller = sym e i;
+  digest = (er ∙ (λ j. mixed ((en ∙ λ k. mixedAxes (travelAt (t k)) (placeAt (p k)) g 5) j) (eu j) (ev j) (ea j))) i;
+}
+
+-- ---- the lent zeros
+
+pub take-zeros : (n m : ℕ) → n ≤ m → take {A = ℕ} n (replicate m 0) ≡ replicate n 0
+take-zeros zero m h = refl
+take-zeros (suc n) zero h = absurd (omega arith)
+take-zeros (suc n) (suc m) h = ap (λ (l : List ℕ). 0 ∷ l) (take-zeros n m (omega arith))
+
+pub zeros-length : (n : ℕ) → n ≤ 255 → length (take {A = ℕ} n (replicate 255 0)) ≡ n
+zeros-length n h = ap length (take-zeros n 255 h) ∙ length-replicate n 0
