@@ -7,4 +7,5 @@ pub mod PauseLaws
 pub mod FitLaws
 pub mod DemandLaws
 pub mod MarkedLaws
+pub mod FlaggedLaws
 pub mod WitnessLaws

@@ -34,6 +34,7 @@ use Rattle.machine.specs.Witness.{
   TurnedAway,
   Witness,
 }
+use Rattle.machine.proofs.FlaggedLaws.{flags-kept}
 
 moved : Moved
 unfolding
@@ -91,4 +92,4 @@ turned = record {
 }
 
 pub witness : Witness
-witness = record { moved = moved; stored = stored; turnedAway = turned }
+witness = record { moved = moved; stored = stored; turnedAway = turned; flagged = flags-kept }

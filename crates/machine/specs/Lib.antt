@@ -11,4 +11,5 @@ pub mod Calls
 pub mod List
 pub mod Demand
 pub mod Marked
+pub mod Flagged
 pub mod Witness

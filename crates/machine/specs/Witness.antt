@@ -13,6 +13,7 @@ use Rattle.machine.specs.State.{none, start}
 use Rattle.machine.specs.Steps.{tickStep}
 use Rattle.machine.specs.Calls.{Call, tick, state, line, lines, ticks}
 use Rattle.machine.specs.Marked.{told}
+use Rattle.machine.specs.Flagged.{Flagged}
 use Rattle.machine.specs.List.{
   paused,
   started,
@@ -181,3 +182,4 @@ pub record Witness : Type 0 where
   pub moved : Moved
   pub stored : Stored
   pub turnedAway : TurnedAway
+  pub flagged : Flagged
