@@ -14,7 +14,8 @@ use Rattle.machine.specs.State.{Machine}
 use Rattle.machine.specs.Replies as replies
 use Rattle.machine.specs.Steps.{tickStep}
 use Rattle.machine.specs.Calls.{Call, state}
-use Rattle.machine.specs.List.{effect, begins, isPulse, lineOf, resetBy, sent, counted, signed, latest}
+use Rattle.machine.specs.Roles.{begins, lineOf, resetBy, sent}
+use Rattle.machine.specs.List.{effect, isPulse, counted, signed, latest}
 use Rattle.machine.proofs.DemandLaws.{demand-3, counts-hold}
 use Rattle.controller.specs.declared.PowerOn.{PowerOn}
 use Rattle.controller.specs.declared.TickAnswer.{TickAnswer}

@@ -15,7 +15,8 @@ use Rattle.machine.specs.State.{Machine}
 use Rattle.machine.specs.Steps.{byteStep, tickStep, bufferAfter}
 use Rattle.machine.specs.Calls as calls
 use Rattle.machine.specs.Calls.{Call, state}
-use Rattle.machine.specs.List.{effect, begins, isPulse, lineOf, resetBy, travel, position, latest}
+use Rattle.machine.specs.Roles.{begins, lineOf, resetBy}
+use Rattle.machine.specs.List.{effect, isPulse, travel, position, latest}
 use Rattle.machine.specs.Demand.{Holds}
 use Rattle.controller.specs.declared.Controller.{Controller}
 use Rattle.controller.specs.declared.PowerOn.{PowerOn}

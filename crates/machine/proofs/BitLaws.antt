@@ -8,7 +8,7 @@ use lib.Dec.{ltb}
 use Rattle.machine.specs.State.{Machine}
 use Rattle.laws.specs.Bits.{bit, weight}
 use Rattle.machine.specs.Stops.{blocked, current}
-use Rattle.machine.specs.List.{moves}
+use Rattle.machine.specs.Roles.{moves}
 
 fourfold : (b : Bool) (n m : ℕ) → m ≡ 4 * n → weight b m ≡ 4 * weight b n
 fourfold true n m e = e

@@ -8,6 +8,7 @@ pub mod Replies
 pub mod Outputs
 pub mod Steps
 pub mod Calls
+pub mod Roles
 pub mod List
 pub mod Demand
 pub mod Marked
