@@ -5,34 +5,41 @@ use mathlib.Core.Bool.{Bool, true, false, cond, _&&_, _||_, or-true, or-false}
 use mathlib.Core.Path.{_≡_, refl, sym, ap, _∙_}
 use native.Mathlib.Omega.{arith}
 use native.Mathlib.Nat.{mod-eq-of-lt}
-use borrow.Author.Tests.{ltb-true, ltb-false, le-leb, lt-leb}
+use borrow.Author.Tests.{ltb-true, ltb-false, le-leb, lt-leb, ne-eqb}
 use lib.Dec.{ltb, eqb}
 use lib.IntN.{ℤ, pos, negsuc, _+ℤ_}
 use lib.ListN.{set}
 use Rattle.laws.specs.Axes.{each}
 use Rattle.laws.proofs.Five.{five}
-use Rattle.laws.proofs.Pick.{by-lt}
+use Rattle.laws.proofs.Pick.{by-lt, by-eq}
 use Rattle.digits.specs.declared.Ident.{Ident}
-use Rattle.line.specs.declared.Command.{Command}
-use Rattle.line.specs.declared.Command.the-variants as C
+use Rattle.line.specs.declared.command.Command.{Command}
+use Rattle.line.specs.declared.command.Command.the-variants as C
+use Rattle.line.specs.Ranges.{isWithin}
 use Rattle.line.specs.Fits.{CommandFits}
+use Rattle.line.proofs.Ranges.{axis, distance, by-code}
 use Rattle.outputs.specs.Outputs.{restOf, fireOf}
 use Rattle.reply.specs.declared.Travel.{Travel}
 use Rattle.reply.specs.declared.Position.{Position}
-use Rattle.reply.specs.Reply.{travelDigits, twenty, bias, origin, replyOf, toldBy, axesFit}
+use Rattle.reply.specs.Reply.{travelDigits, twenty, bias, origin, replyOf, toldBy}
 use Rattle.reply.proofs.Replies.{reply-same}
 use Rattle.machine.specs.State.{Machine, withFlags, withMove, withWatch}
 use Rattle.machine.specs.Stops.{status, blocked, stopping, marks}
 use Rattle.machine.specs.Starts.{begun, notes, outside}
-use Rattle.machine.specs.Commands.{number, does, drops, stores, keepsStart, turned}
+use Rattle.machine.specs.Commands.{number, does, drops, stores, keepsStart, obeys, turned}
 use Rattle.machine.specs.Replies as machine
 use Rattle.machine.specs.Replies.{toldOf}
 use Rattle.machine.proofs.FitLaws.{Fits}
+use Rattle.controller.specs.declared.Controller.{Controller}
 use Rattle.controller.specs.Held.{held, heldHot, heldPlan, heldSettings}
 use Rattle.controller.specs.Inner.Parts.{withFlag, withHot, withNext, blockedIn}
 use Rattle.controller.specs.Inner.Start.{begunOf, startNumberOf}
 use Rattle.controller.specs.Inner.Orders.{
   numberOf,
+  setSettingOf,
+  obeyStartOf,
+  obeyStopOf,
+  obeyOrderOf,
   doesOf,
   turnedOf,
   turnedGiven,
@@ -50,21 +57,14 @@ use Rattle.controller.proofs.StartLaws.{start-is, begun-is}
 pub set-is : {A : Type 0} (f : ℕ → A) (x : A) (j : ℕ) → j < 5 → set (each f) j x ≡ each (λ k. cond (eqb k j) x (f k))
 set-is f x = five (λ (j : ℕ). set (each f) j x ≡ each (λ k. cond (eqb k j) x (f k))) refl refl refl refl refl
 
-pub does-is : (m : Machine) (c : Command) → CommandFits c → doesOf (held m) c ≡ held (does m c)
+setting-is : (m : Machine) (code v : ℕ) → setSettingOf (held m) code v ≡ held (does m (C.Set code v))
 unfolding restOf fireOf
-does-is m (C.Distance k s d) h =
-    λ i. withNext (held m) (record {
-      distances = set-is (m .next .distance) d k (h .0) i;
-      minus = set-is (m .next .minus) s k (h .0) i;
-    })
-does-is m (C.Speed v) h = refl
-does-is m (C.Slope v) h = refl
-does-is m (C.Dwell v) h = refl
-does-is m (C.Watch v) h = refl
-does-is m (C.Polarity v) h = refl
-does-is m (C.Travel k) h = refl
-does-is m C.Status h = refl
-does-is m (C.Start k w) h = when (stores m w)
+setting-is m code v =
+    by-eq (λ (x : Controller). x ≡ held (does m (C.Set code v))) code 12 _ _ (λ q. rw q)
+    (λ n. rw (ne-eqb code 12 n))
+
+starting-is : (m : Machine) (k : ℕ) (w : Bool) → k < 5 → obeyStartOf (held m) k w ≡ held (does m (C.Start k w))
+starting-is m k w h = when (stores m w)
   where
     when : (t : Bool)
         → cond t (withHot (held m) (obeyStartStored (heldHot m) k))
@@ -72,7 +72,9 @@ does-is m (C.Start k w) h = when (stores m w)
         ≡ held (cond t (keepsStart m k) (begun m k))
     when true = refl
     when false = ap (withHot (held m)) (begun-is m k h)
-does-is m C.Stop h = when (m .move .moving)
+
+stop-is : (m : Machine) → obeyStopOf (held m) ≡ held (obeys m 9)
+stop-is m = when (m .move .moving)
   where
     when : (t : Bool)
         → cond t (withHot (held m) (obeyStopMoving (heldHot m))) (withHot (held m) (obeyStopDropped (heldHot m)))
@@ -81,14 +83,21 @@ does-is m C.Stop h = when (m .move .moving)
         withHot (held m) (withFlag (withFlag (obeyStopMoving (heldHot m)) 3 (sym (or-true (m .flags .stopped)) i)) 6
         (sym (or-false (m .flags .sensed)) i))
     when false = refl
-does-is m C.ClearWrongMaster h = refl
-does-is m C.ResetPositions h = refl
-does-is m (C.LowOn v) h = refl
-does-is m (C.HighOn v) h = refl
-does-is m (C.Position k) h = refl
-does-is m C.Everything h = refl
-does-is m C.Inputs h = refl
+
+pub does-is : (m : Machine) (c : Command) → CommandFits c → doesOf (held m) c ≡ held (does m c)
+does-is m (C.Distance k s d) h =
+    let l = distance k s d h .0 in
+    λ i. withNext (held m) (record {
+      distances = set-is (m .next .distance) d k l i;
+      minus = set-is (m .next .minus) s k l i;
+    })
+does-is m (C.Set code v) h = setting-is m code v
+does-is m (C.Start k w) h = starting-is m k w (axis k h)
+does-is m (C.Order code) h =
+    by-code (λ (k : ℕ). obeyOrderOf (held m) k ≡ held (obeys m k)) (stop-is m) refl refl
+    (λ k p q r. rw (p, q, r)) code
 does-is m (C.Outputs v) h = refl
+does-is m (C.Read r) h = refl
 
 pub turned-is : (m : Machine) (n : ℕ) → turnedOf (held m) n ≡ held (turned m n)
 turned-is m n = when (ltb n 10) refl
@@ -111,26 +120,18 @@ own-number false n = refl
 
 pub number-is : (m : Machine) (c : Command) → Fits m → CommandFits c → numberOf (held m) c ≡ number m c
 number-is m (C.Distance k s d) f h = own-number (m .move .moving) 0
-number-is m (C.Speed v) f h = no-number (m .move .moving)
-number-is m (C.Slope v) f h = own-number (m .move .moving) 0
-number-is m (C.Dwell v) f h = own-number (m .move .moving) 0
-number-is m (C.Watch v) f h = own-number (m .move .moving) 0
-number-is m (C.Polarity v) f h = own-number (m .move .moving) 0
-number-is m (C.Travel k) f h = no-number (m .move .moving)
-number-is m C.Status f h = no-number (m .move .moving)
+number-is m (C.Set code v) f h = when (isWithin code 9 12)
+  where
+    when : (t : Bool) → _≡_ {A = ℕ} (cond t (cond (m .move .moving) 11 0) 0) (cond (m .move .moving && t) 11 0)
+    when true = own-number (m .move .moving) 0
+    when false = no-number (m .move .moving)
 number-is m (C.Start k w) f h =
     own-number (m .move .moving) (cond (stores m w) 0
     (startNumberOf (heldSettings (m .settings)) (heldPlan (m .next)) (heldHot m) k))
-    ∙ ap (λ (n : ℕ). cond (m .move .moving && true) 11 (cond (stores m w) 0 n)) (start-is m k h f)
-number-is m C.Stop f h = no-number (m .move .moving)
-number-is m C.ClearWrongMaster f h = no-number (m .move .moving)
-number-is m C.ResetPositions f h = no-number (m .move .moving)
-number-is m (C.LowOn v) f h = no-number (m .move .moving)
-number-is m (C.HighOn v) f h = no-number (m .move .moving)
-number-is m (C.Position k) f h = no-number (m .move .moving)
-number-is m C.Everything f h = no-number (m .move .moving)
-number-is m C.Inputs f h = no-number (m .move .moving)
+    ∙ ap (λ (n : ℕ). cond (m .move .moving && true) 11 (cond (stores m w) 0 n)) (start-is m k (axis k h) f)
+number-is m (C.Order code) f h = no-number (m .move .moving)
 number-is m (C.Outputs v) f h = no-number (m .move .moving)
+number-is m (C.Read r) f h = no-number (m .move .moving)
 
 -- ---- Replies
 
@@ -154,31 +155,11 @@ status-is m = when (m .move .moving)
     when true = refl
     when false = refl
 
-commands-fit : (c : Command) → CommandFits c → axesFit c
-commands-fit (C.Distance k s d) h = omega arith
-commands-fit (C.Speed v) h = omega arith
-commands-fit (C.Slope v) h = omega arith
-commands-fit (C.Dwell v) h = omega arith
-commands-fit (C.Watch v) h = omega arith
-commands-fit (C.Polarity v) h = omega arith
-commands-fit (C.Travel k) h = h
-commands-fit C.Status h = omega arith
-commands-fit (C.Start k w) h = omega arith
-commands-fit C.Stop h = omega arith
-commands-fit C.ClearWrongMaster h = omega arith
-commands-fit C.ResetPositions h = omega arith
-commands-fit (C.LowOn v) h = omega arith
-commands-fit (C.HighOn v) h = omega arith
-commands-fit (C.Position k) h = h
-commands-fit C.Everything h = omega arith
-commands-fit C.Inputs h = omega arith
-commands-fit (C.Outputs v) h = omega arith
-
 pub reply-is : (m : Machine) (c : Command) (digits : ℕ) (ident : Ident) → Fits m → CommandFits c
     → replyOf (toldBy (readingsOf (held m))) c digits ident ≡ machine.replyTo m c digits ident
 reply-is m c digits ident f h =
     reply-same (toldBy (readingsOf (held m))) (toldOf m) refl travels positions (status-is m) refl c
-    (commands-fit c h) digits ident
+    h digits ident
   where
     travels : (k : ℕ) → k < 5 → toldBy (readingsOf (held m)) .travel k ≡ toldOf m .travel k
     travels k l = λ i. travelDigits (each-at (m .move .plan .minus) false k l i)

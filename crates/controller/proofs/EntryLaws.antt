@@ -13,8 +13,8 @@ use Rattle.laws.proofs.Pick.{by-bool}
 use Rattle.digits.specs.declared.Ident.{Ident}
 use Rattle.block.specs.Block.{over}
 use Rattle.block.proofs.Buffers.{over-nil}
-use Rattle.line.specs.declared.Command.{Command}
-use Rattle.line.specs.declared.Command.the-variants as C
+use Rattle.line.specs.declared.command.Command.{Command}
+use Rattle.line.specs.declared.command.Command.the-variants as C
 use Rattle.line.specs.declared.Judged.{Judged}
 use Rattle.line.specs.declared.Judged.the-variants.{Accepted, Refused}
 use Rattle.line.specs.Fits.{JudgedFits}
@@ -211,23 +211,11 @@ heard-fit m b f = record {
 -- The characters of a line have no part in its number.
 number-heard : (m : Machine) (b : ℕ) (c : Command) → number (heardBy m b) c ≡ number m c
 number-heard m b (C.Distance k s d) = refl
-number-heard m b (C.Speed v) = refl
-number-heard m b (C.Slope v) = refl
-number-heard m b (C.Dwell v) = refl
-number-heard m b (C.Watch v) = refl
-number-heard m b (C.Polarity v) = refl
-number-heard m b (C.Travel k) = refl
-number-heard m b C.Status = refl
+number-heard m b (C.Set code v) = refl
 number-heard m b (C.Start k w) = refl
-number-heard m b C.Stop = refl
-number-heard m b C.ClearWrongMaster = refl
-number-heard m b C.ResetPositions = refl
-number-heard m b (C.LowOn v) = refl
-number-heard m b (C.HighOn v) = refl
-number-heard m b (C.Position k) = refl
-number-heard m b C.Everything = refl
-number-heard m b C.Inputs = refl
+number-heard m b (C.Order code) = refl
 number-heard m b (C.Outputs v) = refl
+number-heard m b (C.Read r) = refl
 
 -- A line, answered by the held machine.
 lined-answer : (m : Machine) (b : ℕ) (silent : Bool) (ident : Ident) (j : Judged) → Fits (heardBy m b) → JudgedFits j

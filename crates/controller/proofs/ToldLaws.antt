@@ -8,7 +8,7 @@ use lib.ListN.{length}
 use Rattle.digits.specs.declared.Ident.{Ident}
 use Rattle.block.specs.Block.{over, laid, laidLength}
 use Rattle.block.proofs.Buffers.{over-nil}
-use Rattle.line.specs.declared.Command.{Command}
+use Rattle.line.specs.declared.command.Command.{Command}
 use Rattle.line.specs.declared.Judged.{Judged}
 use Rattle.line.specs.declared.Judged.the-variants.{Accepted, Refused}
 use Rattle.reply.specs.declared.Readings.{Readings}

@@ -14,7 +14,7 @@ pub struct Settings {
     pub polarity: u32,
     pub low: u32,
     pub high: u32,
-    pub watch: u8,
+    pub watch: u32,
 }
 
 // A distance and a direction for each axis; true is minus.

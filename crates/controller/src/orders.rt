@@ -4,17 +4,21 @@ ghost use mathlib.Core.Path.{_≡_};
 ghost use Prim.Native.Nat.{_<_};
 ghost use Rattle.line.specs.Fits.{CommandFits};
 ghost use Rattle.controller.specs.Inner.Start.{StartFits};
+ghost use Rattle.controller.specs.Inner.Parts.{put};
 ghost use Rattle.controller.specs.Inner.Orders.{
   setAxisOf,
   setPolarityOf,
+  setSettingOf,
   setOutputsOf,
   storesOf,
   restNumberOf,
+  settingNumberOf,
   startLineOf,
   numberOf,
   obeyStartOf,
   obeyStopOf,
   obeyResetOf,
+  obeyOrderOf,
   doesOf,
   zeroWatchOf,
   turnedOf,
@@ -22,9 +26,14 @@ ghost use Rattle.controller.specs.Inner.Orders.{
 use crate::Controller;
 use crate::hot;
 use crate::hot::Flags;
+use crate::hot::Settings;
 use crate::start;
-use line::Command;
+use line::command;
+use line::command::Command;
 use reply::Position;
+
+// The code of the polarity.
+const POLARITY: u8 = 12;
 
 // A start after the dwell is stored if a dwell runs.
 fn stores(c: Controller, waits: bool) -> bool
@@ -42,6 +51,16 @@ fn rest_number(c: Controller) -> u8
 {
     if c.hot.run.moving {
         return 11;
+    }
+    0
+}
+
+// A setting's number: 11 for any P but speed.
+fn setting_number(c: Controller, code: u8) -> u8
+    ensures { λ r. ⌜ r ≡ settingNumberOf c code ⌝ }
+{
+    if command::within(code as u32, 9, 12) {
+        return rest_number(c);
     }
     0
 }
@@ -74,23 +93,11 @@ pub(crate) fn number(c: Controller, command: Command) -> u8
             minus: _,
             length: _,
         } => rest_number(c),
-        Command::Speed(_) => 0,
-        Command::Slope(_) => rest_number(c),
-        Command::Dwell(_) => rest_number(c),
-        Command::Watch(_) => rest_number(c),
-        Command::Polarity(_) => rest_number(c),
-        Command::Travel(_) => 0,
-        Command::Status => 0,
+        Command::Set { code, value: _ } => setting_number(c, code),
         Command::Start { master, waits } => start_line(c, master, waits),
-        Command::Stop => 0,
-        Command::ClearWrongMaster => 0,
-        Command::ResetPositions => 0,
-        Command::LowOn(_) => 0,
-        Command::HighOn(_) => 0,
-        Command::Position(_) => 0,
-        Command::Everything => 0,
-        Command::Inputs => 0,
+        Command::Order(_) => 0,
         Command::Outputs(_) => 0,
+        Command::Read(_) => 0,
     }
 }
 
@@ -110,6 +117,24 @@ fn set_axis(c: Controller, axis: u8, minus: bool, length: u32) -> Controller
     next
 }
 
+// The settings with the one of this code replaced. (No line has another code.)
+fn put(settings: Settings, code: u8, v: u32) -> Settings
+    ensures { λ r. ⌜ r ≡ put settings code v ⌝ }
+{
+    let mut next = settings;
+    match code {
+        8 => next.speed = v,
+        9 => next.slope = v,
+        10 => next.dwell = v,
+        11 => next.watch = v,
+        12 => next.polarity = v,
+        13 => next.low = v,
+        14 => next.high = v,
+        _ => {}
+    }
+    next
+}
+
 // The polarity, and what the axes' lines add to an output word under it.
 fn set_polarity(c: Controller, v: u32) -> Controller
     ensures { λ r. ⌜ r ≡ setPolarityOf c v ⌝ }
@@ -123,6 +148,22 @@ fn set_polarity(c: Controller, v: u32) -> Controller
     let mut next = c;
     next.hot = hot;
     next.cold.settings.polarity = v;
+    next
+}
+
+// A setting by its code.
+fn set_setting(c: Controller, code: u8, v: u32) -> Controller
+    ensures { λ r. ⌜ r ≡ setSettingOf c code v ⌝ }
+{
+    if code == POLARITY {
+        return set_polarity(c, v);
+    }
+    let was = c.cold.settings;
+    let settings = put(was, code, v);
+    let mut cold = c.cold;
+    cold.settings = settings;
+    let mut next = c;
+    next.cold = cold;
     next
 }
 
@@ -190,7 +231,7 @@ fn obey_reset(c: Controller) -> Controller
         sensed: told.sensed,
     };
     let mut counters = c.hot.counters;
-    counters.positions = [Position(524288); 5];
+    counters.positions = [Position(digits::TOP_BIT); 5];
     let mut hot = c.hot;
     hot.counters = counters;
     hot.flags = flags;
@@ -199,40 +240,44 @@ fn obey_reset(c: Controller) -> Controller
     next
 }
 
-// What an accepted command does.
+// Orders by their codes: 9 stop, A clear bit 2, B position reset.
+fn obey_order(c: Controller, code: u8) -> Controller
+    ensures { λ r. ⌜ r ≡ obeyOrderOf c code ⌝ }
+{
+    if code == 9 {
+        return obey_stop(c);
+    }
+    if code == 10 {
+        let mut next = c;
+        next.hot.flags.wrong = false;
+        return next;
+    }
+    if code == 11 {
+        return obey_reset(c);
+    }
+    c
+}
+
+// What an accepted command does. A reading alters nothing.
 pub(crate) fn does(c: Controller, command: Command) -> Controller
     requires { ⌜ CommandFits command ⌝ }
     ensures { λ r. ⌜ r ≡ doesOf c command ⌝ }
 {
-    let mut next = c;
     match command {
         Command::Distance {
             axis,
             minus,
             length,
-        } => return set_axis(c, axis, minus, length),
-        Command::Speed(v) => next.cold.settings.speed = v,
-        Command::Slope(v) => next.cold.settings.slope = v,
-        Command::Dwell(v) => next.cold.settings.dwell = v,
-        Command::Watch(v) => next.cold.settings.watch = v,
-        Command::Polarity(v) => return set_polarity(c, v),
-        Command::Travel(_) => {}
-        Command::Status => {}
-        Command::Start { master, waits } => return obey_start(c, master, waits),
-        Command::Stop => return obey_stop(c),
-        Command::ClearWrongMaster => next.hot.flags.wrong = false,
-        Command::ResetPositions => return obey_reset(c),
-        Command::LowOn(v) => next.cold.settings.low = v,
-        Command::HighOn(v) => next.cold.settings.high = v,
-        Command::Position(_) => {}
-        Command::Everything => {}
-        Command::Inputs => {}
-        Command::Outputs(v) => return set_outputs(c, v),
+        } => set_axis(c, axis, minus, length),
+        Command::Set { code, value } => set_setting(c, code, value),
+        Command::Start { master, waits } => obey_start(c, master, waits),
+        Command::Order(code) => obey_order(c, code),
+        Command::Outputs(v) => set_outputs(c, v),
+        Command::Read(_) => c,
     }
-    next
 }
 
-// The watch count zeroWatchOf.
+// The watch count zeroed.
 pub(crate) fn zero_watch(c: Controller) -> Controller
     ensures { λ r. ⌜ r ≡ zeroWatchOf c ⌝ }
 {

@@ -25,8 +25,8 @@ use crate::hot::Plan;
 use crate::orders;
 use crate::watch;
 use digits::Ident;
-use line::Command;
 use line::Judged;
+use line::command::Command;
 use reply::Readings;
 
 fn bit(on: bool, n: u8) -> u8

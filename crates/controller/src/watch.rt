@@ -29,7 +29,7 @@ fn raised(watch: u32) -> u32
 }
 
 // Whether the count is full and the setting, shifted down to its bit, watches.
-fn is_full(watch: u32, setting: u8) -> bool
+fn is_full(watch: u32, setting: u32) -> bool
     ensures { λ r. ⌜ r ≡ isFullOf watch setting ⌝ }
 {
     if watch < WATCH_FULL {

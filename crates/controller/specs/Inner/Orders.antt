@@ -4,10 +4,12 @@ use mathlib.Core.Bool.{Bool, true, false, cond, _&&_, _||_}
 use lib.Dec.{ltb, eqb}
 use lib.ListN.{set}
 use Rattle.laws.specs.Axes.{each}
+use Rattle.digits.specs.Digits.{topBit}
 use Rattle.inputs.specs.Inputs.{activeAt}
 use Rattle.outputs.specs.Outputs.{generalOf}
-use Rattle.line.specs.declared.Command.{Command}
-use Rattle.line.specs.declared.Command.the-variants as C
+use Rattle.line.specs.declared.command.Command.{Command}
+use Rattle.line.specs.declared.command.Command.the-variants as C
+use Rattle.line.specs.Ranges.{isWithin}
 use Rattle.controller.specs.declared.Controller.{Controller}
 use Rattle.controller.specs.declared.hot.Hot.{Hot}
 use Rattle.controller.specs.Inner.Parts.{
@@ -41,26 +43,18 @@ startLineOf c k waits =
     cond (c .hot .run .moving) 11
     (cond (storesOf c waits) 0 (startNumberOf (c .cold .settings) (c .cold .next) (c .hot) k))
 
+-- A setting's number: 11 for any P but speed.
+abbrev pub settingNumberOf : Controller → ℕ → ℕ
+settingNumberOf c code = cond (isWithin code 9 12) (restNumberOf c) 0
+
 -- The number that turns a well-formed line away, or 0.
 abbrev pub numberOf : Controller → Command → ℕ
 numberOf c (C.Distance k s d) = restNumberOf c
-numberOf c (C.Speed v) = 0
-numberOf c (C.Slope v) = restNumberOf c
-numberOf c (C.Dwell v) = restNumberOf c
-numberOf c (C.Watch v) = restNumberOf c
-numberOf c (C.Polarity v) = restNumberOf c
-numberOf c (C.Travel k) = 0
-numberOf c C.Status = 0
+numberOf c (C.Set code v) = settingNumberOf c code
 numberOf c (C.Start k waits) = startLineOf c k waits
-numberOf c C.Stop = 0
-numberOf c C.ClearWrongMaster = 0
-numberOf c C.ResetPositions = 0
-numberOf c (C.LowOn v) = 0
-numberOf c (C.HighOn v) = 0
-numberOf c (C.Position k) = 0
-numberOf c C.Everything = 0
-numberOf c C.Inputs = 0
+numberOf c (C.Order code) = 0
 numberOf c (C.Outputs v) = 0
+numberOf c (C.Read r) = 0
 
 -- ---- Effects
 
@@ -74,6 +68,10 @@ abbrev pub setPolarityOf : Controller → ℕ → Controller
 setPolarityOf c v =
     withSetting
     (withHot c (withWires (c .hot) (c .hot .wires .general) (cellsOf (c .cold .switch) v (c .hot .plan .minus)))) 12 v
+
+-- A setting by its code.
+abbrev pub setSettingOf : Controller → ℕ → ℕ → Controller
+setSettingOf c code v = cond (eqb code 12) (setPolarityOf c v) (withSetting c code v)
 
 -- The general outputs, and what they add to an output word.
 abbrev pub setOutputsOf : Controller → ℕ → Controller
@@ -109,7 +107,7 @@ obeyResetGiven h emergency =
     withFlag (withCounters h (record {
       travels = h .counters .travels;
       remainders = h .counters .remainders;
-      positions = each (λ k. record { 0 = 524288 });
+      positions = each (λ k. record { 0 = topBit });
     })) 5 emergency
 
 -- A position reset zeroes positions and, with the emergency input inactive or disabled, frees the hold.
@@ -118,26 +116,22 @@ obeyResetOf c =
     withHot c (obeyResetGiven (c .hot)
     (c .hot .flags .emergency && activeAt (c .cold .settings .low) (c .cold .settings .high) (c .hot .inputs) 12))
 
--- What an accepted command does.
+-- Orders by their codes: 9 stop, A clear bit 2, B position reset.
+abbrev pub obeyOrderOf : Controller → ℕ → Controller
+obeyOrderOf c code =
+    cond (eqb code 9) (obeyStopOf c)
+    (cond (eqb code 10) (withHot c (withFlag (c .hot) 2 false))
+    (cond (eqb code 11) (obeyResetOf c)
+    c))
+
+-- What an accepted command does. A reading alters nothing.
 abbrev pub doesOf : Controller → Command → Controller
 doesOf c (C.Distance k s d) = setAxisOf c k s d
-doesOf c (C.Speed v) = withSetting c 8 v
-doesOf c (C.Slope v) = withSetting c 9 v
-doesOf c (C.Dwell v) = withSetting c 10 v
-doesOf c (C.Watch v) = withSetting c 11 v
-doesOf c (C.Polarity v) = setPolarityOf c v
-doesOf c (C.Travel k) = c
-doesOf c C.Status = c
+doesOf c (C.Set code v) = setSettingOf c code v
 doesOf c (C.Start k waits) = obeyStartOf c k waits
-doesOf c C.Stop = obeyStopOf c
-doesOf c C.ClearWrongMaster = withHot c (withFlag (c .hot) 2 false)
-doesOf c C.ResetPositions = obeyResetOf c
-doesOf c (C.LowOn v) = withSetting c 13 v
-doesOf c (C.HighOn v) = withSetting c 14 v
-doesOf c (C.Position k) = c
-doesOf c C.Everything = c
-doesOf c C.Inputs = c
+doesOf c (C.Order code) = obeyOrderOf c code
 doesOf c (C.Outputs v) = setOutputsOf c v
+doesOf c (C.Read r) = c
 
 -- The watch count zeroed.
 abbrev pub zeroWatchOf : Controller → Controller

@@ -1,7 +1,8 @@
--- `number` meets its contract: each return, by the tests and the answers that led there. Assumes nothing.
+-- A case for each command. Assumes nothing.
 use borrow.Author.Needs.{needs}
 use mathlib.Core.Path.{sym, ap, subst, _∙_}
 use Rattle.line.specs.Fits.{CommandFits}
+use Rattle.line.proofs.Ranges.{axis}
 use Rattle.controller.specs.Inner.Orders.{numberOf}
 use Rattle.controller.proofs.orders.number.Statement.{statement}
 use Rattle.controller.proofs.orders.number.Tie as tie
@@ -12,134 +13,50 @@ enum-told c = search needs
 rest-number-requires : tie.Need-rest-number-requires
 rest-number-requires c κs = search needs
 
+enum-known-command : tie.Need-enum-known-command
+enum-known-command c = search needs
+
+setting-number-requires : tie.Need-setting-number-requires
+setting-number-requires c κs = search needs
+
+enum-known-command-2 : tie.Need-enum-known-command-2
+enum-known-command-2 c = search needs
+
+start-line-requires : tie.Need-start-line-requires
+start-line-requires c κs = (
+  axis _ (subst CommandFits (c .before .command2 .given .1) (c .before .before .before .pre .0)),
+  c .before .before .before .pre .1,
+)
+
 enum-told-2 : tie.Need-enum-told-2
 enum-told-2 c = search needs
 
 enum-told-3 : tie.Need-enum-told-3
 enum-told-3 c = search needs
 
-rest-number-requires-2 : tie.Need-rest-number-requires-2
-rest-number-requires-2 c κs = search needs
-
 enum-told-4 : tie.Need-enum-told-4
 enum-told-4 c = search needs
-
-rest-number-requires-3 : tie.Need-rest-number-requires-3
-rest-number-requires-3 c κs = search needs
-
-enum-told-5 : tie.Need-enum-told-5
-enum-told-5 c = search needs
-
-rest-number-requires-4 : tie.Need-rest-number-requires-4
-rest-number-requires-4 c κs = search needs
-
-enum-told-6 : tie.Need-enum-told-6
-enum-told-6 c = search needs
-
-rest-number-requires-5 : tie.Need-rest-number-requires-5
-rest-number-requires-5 c κs = search needs
-
-enum-told-7 : tie.Need-enum-told-7
-enum-told-7 c = search needs
-
-enum-told-8 : tie.Need-enum-told-8
-enum-told-8 c = search needs
-
-enum-known-command : tie.Need-enum-known-command
-enum-known-command c = search needs
-
-start-line-requires : tie.Need-start-line-requires
-start-line-requires c κs = (
-  subst CommandFits (c .before .command .given .1) (c .before .before .before .pre .0),
-  c .before .before .before .pre .1,
-)
-
-enum-told-9 : tie.Need-enum-told-9
-enum-told-9 c = search needs
-
-enum-told-10 : tie.Need-enum-told-10
-enum-told-10 c = search needs
-
-enum-told-11 : tie.Need-enum-told-11
-enum-told-11 c = search needs
-
-enum-told-12 : tie.Need-enum-told-12
-enum-told-12 c = search needs
-
-enum-told-13 : tie.Need-enum-told-13
-enum-told-13 c = search needs
-
-enum-told-14 : tie.Need-enum-told-14
-enum-told-14 c = search needs
-
-enum-told-15 : tie.Need-enum-told-15
-enum-told-15 c = search needs
-
-enum-told-16 : tie.Need-enum-told-16
-enum-told-16 c = search needs
-
-enum-told-17 : tie.Need-enum-told-17
-enum-told-17 c = search needs
 
 returns : tie.Need-returns
 returns c = c .rest-number .ensures ∙ sym
     (ap (numberOf (c .before .before .before .args .c)) (c .before .enum-told .given .1))
 
 returns-2 : tie.Need-returns-2
-returns-2 c = sym (ap (numberOf (c .before .before .args .c)) (c .enum-told2 .given .1))
-
-returns-3 : tie.Need-returns-3
-returns-3 c = c .rest-number2 .ensures ∙ sym
-    (ap (numberOf (c .before .before .before .args .c)) (c .before .enum-told3 .given .1))
-
-returns-4 : tie.Need-returns-4
-returns-4 c = c .rest-number3 .ensures ∙ sym
-    (ap (numberOf (c .before .before .before .args .c)) (c .before .enum-told4 .given .1))
-
-returns-5 : tie.Need-returns-5
-returns-5 c = c .rest-number4 .ensures ∙ sym
-    (ap (numberOf (c .before .before .before .args .c)) (c .before .enum-told5 .given .1))
-
-returns-6 : tie.Need-returns-6
-returns-6 c = c .rest-number5 .ensures ∙ sym
-    (ap (numberOf (c .before .before .before .args .c)) (c .before .enum-told6 .given .1))
-
-returns-7 : tie.Need-returns-7
-returns-7 c = sym (ap (numberOf (c .before .before .args .c)) (c .enum-told7 .given .1))
-
-returns-8 : tie.Need-returns-8
-returns-8 c = sym (ap (numberOf (c .before .before .args .c)) (c .enum-told8 .given .1))
-
-returns-9 : tie.Need-returns-9
-returns-9 c = c .start-line .ensures ∙ sym
+returns-2 c = c .setting-number .ensures ∙ sym
     (ap (numberOf (c .before .before .before .before .args .c)) (c .before .before .command .given .1))
 
-returns-10 : tie.Need-returns-10
-returns-10 c = sym (ap (numberOf (c .before .before .args .c)) (c .enum-told9 .given .1))
+returns-3 : tie.Need-returns-3
+returns-3 c = c .start-line .ensures ∙ sym
+    (ap (numberOf (c .before .before .before .before .args .c)) (c .before .before .command2 .given .1))
 
-returns-11 : tie.Need-returns-11
-returns-11 c = sym (ap (numberOf (c .before .before .args .c)) (c .enum-told10 .given .1))
+returns-4 : tie.Need-returns-4
+returns-4 c = search needs
 
-returns-12 : tie.Need-returns-12
-returns-12 c = sym (ap (numberOf (c .before .before .args .c)) (c .enum-told11 .given .1))
+returns-5 : tie.Need-returns-5
+returns-5 c = search needs
 
-returns-13 : tie.Need-returns-13
-returns-13 c = sym (ap (numberOf (c .before .before .args .c)) (c .enum-told12 .given .1))
-
-returns-14 : tie.Need-returns-14
-returns-14 c = sym (ap (numberOf (c .before .before .args .c)) (c .enum-told13 .given .1))
-
-returns-15 : tie.Need-returns-15
-returns-15 c = sym (ap (numberOf (c .before .before .args .c)) (c .enum-told14 .given .1))
-
-returns-16 : tie.Need-returns-16
-returns-16 c = sym (ap (numberOf (c .before .before .args .c)) (c .enum-told15 .given .1))
-
-returns-17 : tie.Need-returns-17
-returns-17 c = sym (ap (numberOf (c .before .before .args .c)) (c .enum-told16 .given .1))
-
-returns-18 : tie.Need-returns-18
-returns-18 c = sym (ap (numberOf (c .before .before .args .c)) (c .enum-told17 .given .1))
+returns-6 : tie.Need-returns-6
+returns-6 c = search needs
 
 pub number-spec : {M : Type 1} → statement M
 number-spec =
@@ -147,43 +64,16 @@ number-spec =
     (tie.spec
     enum-told
     rest-number-requires
+    enum-known-command
+    setting-number-requires
+    enum-known-command-2
+    start-line-requires
     enum-told-2
     enum-told-3
-    rest-number-requires-2
     enum-told-4
-    rest-number-requires-3
-    enum-told-5
-    rest-number-requires-4
-    enum-told-6
-    rest-number-requires-5
-    enum-told-7
-    enum-told-8
-    enum-known-command
-    start-line-requires
-    enum-told-9
-    enum-told-10
-    enum-told-11
-    enum-told-12
-    enum-told-13
-    enum-told-14
-    enum-told-15
-    enum-told-16
-    enum-told-17
     returns
     returns-2
     returns-3
     returns-4
     returns-5
-    returns-6
-    returns-7
-    returns-8
-    returns-9
-    returns-10
-    returns-11
-    returns-12
-    returns-13
-    returns-14
-    returns-15
-    returns-16
-    returns-17
-    returns-18)
+    returns-6)
