@@ -8,8 +8,8 @@ use mathlib.Core.Path.{_≡_}
 use lib.Dec.{leb, eqb}
 use lib.Ieee.{Float, nan, inf, fin, binary64, up, down, round}
 use lib.Ieee.Exact.{HasValue}
-use Rattle.line.specs.declared.Command.{Command}
-use Rattle.line.specs.declared.Command.the-variants as Line
+use Rattle.line.specs.declared.command.Command.{Command}
+use Rattle.line.specs.declared.command.Command.the-variants as Line
 use Rattle.figures.specs.declared.Units.{Units}
 use Rattle.figures.specs.declared.Units.the-variants.{Count, Refused}
 use Rattle.figures.specs.declared.Setting.{Setting}
@@ -97,8 +97,8 @@ asks command units = record { number = units .number; values = map command (unit
 
 -- "A setting is a speed in hertz or a slope in hertz per ms": the matching P command, P 8 or P 9, or 21.
 abbrev pub commandOf : Setting → Answer Command
-commandOf (Speed x) = asks Line.Speed (speedUnits x)
-commandOf (Slope x) = asks Line.Slope (slopeUnits x)
+commandOf (Speed x) = asks (Line.Set 8) (speedUnits x)
+commandOf (Slope x) = asks (Line.Set 9) (slopeUnits x)
 
 -- ---- the pair
 

@@ -20,13 +20,17 @@ ghost use Rattle.figures.specs.Figures.{
   Shown,
 };
 use controller::Controller;
-use line::Command;
+use line::command::Command;
 
-// A unit of speed in hertz, and how many there may be (P 8).
+// The speed: its code, its unit in hertz, and how many there may be (P 8).
+const SPEED: u8 = 8;
+
 const SPEED_UNIT: f64 = 0.25;
 
 const SPEED_MOST: u32 = 1000000;
-// A unit of slope in hertz per ms, and how many there may be (P 9).
+// The slope: its code, its unit in hertz per ms, and how many there may be (P 9).
+const SLOPE: u8 = 9;
+
 const SLOPE_UNIT: f64 = 1.25;
 
 const SLOPE_MOST: u32 = 4095;
@@ -109,11 +113,17 @@ pub fn command_of(s: Setting) -> Asked
 {
     match s {
         Setting::Speed(x) => match speed_units(x) {
-            Units::Count(n) => Asked::Command(Command::Speed(n)),
+            Units::Count(n) => Asked::Command(Command::Set {
+                code: SPEED,
+                value: n,
+            }),
             Units::Refused(k) => Asked::Refused(k),
         },
         Setting::Slope(x) => match slope_units(x) {
-            Units::Count(n) => Asked::Command(Command::Slope(n)),
+            Units::Count(n) => Asked::Command(Command::Set {
+                code: SLOPE,
+                value: n,
+            }),
             Units::Refused(k) => Asked::Refused(k),
         },
     }
