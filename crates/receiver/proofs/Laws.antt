@@ -1,87 +1,112 @@
 -- The receiver against the characters received since the last 0D, however many: what it holds of them after one more,
 -- and at the line's end. Assumes nothing.
 use Prim.Native.Nat.{ℕ, suc, min, _+_, _-_, _≤_, _<_}
+use native.Mathlib.Numerals.{add-one}
 use native.Mathlib.Omega.{arith}
 use mathlib.Core.Bool.{Bool, true, false, cond}
-use mathlib.Core.List.{List, [], _∷_, _++_}
-use mathlib.Core.Path.{_≡_, sym, ap, _∙_}
+use mathlib.Core.List.{List, [], _∷_, _++_, append-nil}
+use mathlib.Core.Path.{_≡_, refl, sym, ap, _∙_}
 use lib.Dec.{eqb}
-use lib.ListN.{length, take, set, replicate, length-append, length-take}
-use lib.Seq.{take-all, take-append-le, take-at, set-append-seam, append-snoc, getD-take}
+use lib.ListN.{length, getD, take, drop, replicate, length-take, drop-of-length-le}
+use lib.Seq.{take-all, take-at, drop-cons, append-snoc, getD-take}
 use borrow.Author.Tests.{ne-eqb}
-use Rattle.laws.proofs.Pick.{by-le}
+use Rattle.laws.proofs.Pick.{on-le, by-bool, by-le}
 use Rattle.line.specs.Line.{silentOf, identOf, judgeOf}
 use Rattle.line.proofs.Laws.{too-long}
 use Rattle.receiver.specs.declared.Receiver.{Receiver}
+use Rattle.receiver.specs.declared.Gathered.{Gathered}
 use Rattle.receiver.specs.declared.Taken.{Taken}
 use Rattle.receiver.specs.declared.Heard.the-variants.{Character, Line}
 use Rattle.receiver.specs.Receiver.{
   Receipt,
   heardLine,
   receive,
+  before,
+  beforeEnd,
   holding,
   heldTaken,
+  heldGathered,
   Holding,
   kept,
   heardOf,
   pushOf,
   takenOf,
+  pushAll,
+  gatheredOf,
 }
+use Rattle.receiver.proofs.KeepLaws.{full-chars, full-count, room-chars, room-count}
 
 -- ---- one character more
 
-module _ (l : List ℕ) (b : ℕ) where
-  push-full : 10 ≤ min 10 (length l) → holding l ≡ holding (l ++ (b ∷ []))
-  push-full h = λ i. record { chars = p i; count = q i }
-    where
-      k : 10 ≤ length l
-      k = omega arith
-
-      y : 10 - length l ≡ 0
-      y = omega arith
-
-      z : 10 - (length l + 1) ≡ 0
-      z = omega arith
-
-      p : take 10 l ++ replicate (10 - length l) 0
-          ≡ take 10 (l ++ (b ∷ [])) ++ replicate (10 - length (l ++ (b ∷ []))) 0
-      p = rw (length-append l (b ∷ []), take-append-le 10 l (b ∷ []) k, y, z)
-
-      q : min 10 (length l) ≡ min 10 (length (l ++ (b ∷ [])))
-      q = rw (length-append l (b ∷ [])) (omega arith)
-
-  push-room : min 10 (length l) < 10
-      → record {
-        chars = set (take 10 l ++ replicate (10 - length l) 0) (min 10 (length l)) b;
-        count = min 10 (length l) + 1;
-      }
-      ≡ holding (l ++ (b ∷ []))
-  push-room h = λ i. record { chars = p i; count = q i }
-    where
-      k : length l ≤ 10
-      k = omega arith
-
-      m : length (l ++ (b ∷ [])) ≤ 10
-      m = rw (length-append l (b ∷ [])) (omega arith)
-
-      y : 10 - length l ≡ suc (10 - (length l + 1))
-      y = omega arith
-
-      x : min 10 (length l) ≡ length l
-      x = omega arith
-
-      p : set (take 10 l ++ replicate (10 - length l) 0) (min 10 (length l)) b
-          ≡ take 10 (l ++ (b ∷ [])) ++ replicate (10 - length (l ++ (b ∷ []))) 0
-      p =
-          rw (take-all 10 (l ++ (b ∷ [])) m, take-all 10 l k, x, length-append l (b ∷ []), y, append-snoc)
-          (set-append-seam l 0 (replicate (10 - (length l + 1)) 0) b)
-
-      q : min 10 (length l) + 1 ≡ min 10 (length (l ++ (b ∷ [])))
-      q = rw (length-append l (b ∷ [])) (omega arith)
-
 pub push-holding : (l : List ℕ) (b : ℕ) → pushOf (holding l) b ≡ holding (l ++ (b ∷ []))
 push-holding l b =
-    by-le (λ (r : Receiver). r ≡ holding (l ++ (b ∷ []))) 10 (min 10 (length l)) _ _ (push-full l b) (push-room l b)
+    by-le (λ (r : Receiver). r ≡ holding (l ++ (b ∷ []))) 10 (min 10 (length l)) _ _
+    (λ h i. record { chars = full-chars 10 l (b ∷ []) h i; count = full-count 10 l (b ∷ []) h i })
+    (λ h i. record { chars = room-chars 10 l b h i; count = room-count 10 l b h i })
+
+-- ---- characters one after another
+
+pub all-holding : (bs l : List ℕ) → pushAll (holding l) bs ≡ holding (l ++ bs)
+unfolding pushAll
+all-holding [] l = ap holding (sym (append-nil l))
+all-holding (b ∷ bs) l =
+    ap (λ (r : Receiver). pushAll r bs) (push-holding l b)
+    ∙ (all-holding bs (l ++ (b ∷ [])) ∙ ap holding (append-snoc l b bs))
+
+-- From ten on nothing alters.
+pub all-full : (bs : List ℕ) (r : Receiver) → 10 ≤ r .count → pushAll r bs ≡ r
+unfolding pushAll
+all-full [] r h = refl
+all-full (b ∷ bs) r h =
+    ap (λ (x : Receiver). pushAll x bs) (sym (on-le 10 (r .count) r r _ h refl)) ∙ all-full bs r h
+
+-- One more of them, and none left.
+pub all-next : (r : Receiver) (cs : List ℕ) (i : ℕ) → i < length cs
+    → pushAll r (drop i cs) ≡ pushAll (pushOf r (getD cs i 0)) (drop (i + 1) cs)
+unfolding pushAll
+all-next r cs i h = rw (drop-cons cs i 0 h, add-one i)
+
+pub all-end : (r : Receiver) (cs : List ℕ) (i : ℕ) → length cs ≤ i → pushAll r (drop i cs) ≡ r
+unfolding pushAll
+all-end r cs i h = rw (drop-of-length-le cs h)
+
+-- ---- the bytes before the first that a test marks
+
+module _ (marks : ℕ → Bool) where
+  pub before-take : (bs : List ℕ) → take (length (before marks bs)) bs ≡ before marks bs
+  unfolding before
+  before-take [] = refl
+  before-take (b ∷ bs) =
+      by-bool (λ (x : List ℕ). take (length x) (b ∷ bs) ≡ x) (marks b) [] (b ∷ before marks bs)
+      (λ e. refl) (λ e. ap (λ (x : List ℕ). b ∷ x) (before-take bs))
+
+  pub before-short : (bs : List ℕ) → length (before marks bs) ≤ length bs
+  before-short bs =
+      let e : length (take (length (before marks bs)) bs) ≡ length (before marks bs) = ap length (before-take bs) in
+      omega (arith, e, length-take (length (before marks bs)) bs)
+
+  module _ (bs : List ℕ) (i : ℕ) where
+    pub before-none : length bs ≤ i → length (before marks (drop i bs)) ≡ 0
+    unfolding before
+    before-none h = rw (drop-of-length-le bs h)
+
+    pub before-mark : i < length bs → marks (getD bs i 0) ≡ true → length (before marks (drop i bs)) ≡ 0
+    unfolding before
+    before-mark h e = rw (drop-cons bs i 0 h, e)
+
+    pub before-next : i < length bs → marks (getD bs i 0) ≡ false
+        → length (before marks (drop i bs)) ≡ suc (length (before marks (drop (i + 1) bs)))
+    unfolding before
+    before-next h e = rw (drop-cons bs i 0 h, e, add-one i)
+
+-- Gathered on what is held, and so on every list of characters so held.
+pub gathered-told : {r : Gathered} (s : Receiver) (bs : List ℕ) → r ≡ gatheredOf s bs
+    → (r ≡ gatheredOf s bs) × Holding s (λ l. r ≡ heldGathered l bs)
+gathered-told s bs e = (
+  e,
+  λ l h. e ∙ (ap (λ (x : Receiver). gatheredOf x bs) (sym h)
+      ∙ ap (λ (x : Receiver). record { next = x; count = length (beforeEnd bs) }) (all-holding (beforeEnd bs) l)),
+)
 
 -- ---- the line's end: ten characters tell an over-long line
 

@@ -3,7 +3,9 @@
 // Every public function is total: it has no premise and states its result for every input. Assumes nothing.
 ghost use mathlib.Core.Path.{_≡_};
 ghost use mathlib.Core.List.{[]};
+ghost use lib.ListN.{length};
 ghost use Rattle.receiver.specs.Receiver.{holding, pushOf, takenOf, receive, heldTaken, heardOf, Holding};
+ghost use Rattle.receiver.specs.Receiver.{beforeEnd, pushAll, gatheredOf, heldGathered};
 use digits::Ident;
 use line::Judged;
 
@@ -35,6 +37,26 @@ pub struct Taken {
     pub heard: Heard,
 }
 
+// The receiver after a stretch of characters, and how many they are.
+pub struct Gathered {
+    pub next: Receiver,
+    pub count: usize,
+}
+
+// How many bytes stand before the first 0D.
+fn before_end(bytes: &[u8]) -> usize
+    ensures { λ r. ⌜ r ≡ length (beforeEnd (now (bytes .entry))) ⌝ }
+{
+    let mut i = 0;
+    while i < bytes.len() {
+        if bytes[i] == END {
+            return i;
+        }
+        i += 1;
+    }
+    i
+}
+
 impl Receiver {
     // A receiver with nothing received.
     pub fn new() -> Receiver
@@ -61,6 +83,33 @@ impl Receiver {
             chars,
             count: count + 1,
         }
+    }
+
+    // Characters one after another. An over-long line is not looked at to its end.
+    fn push_all(self, cs: &[u8]) -> Receiver
+        ensures { λ r. ⌜ r ≡ pushAll self (now (cs .entry)) ⌝ }
+    {
+        let mut next = self;
+        let mut i = 0;
+        while i < cs.len() {
+            if 10 <= next.count {
+                return next;
+            }
+            let more = next.push(cs[i]);
+            next = more;
+            i += 1;
+        }
+        next
+    }
+
+    // The bytes before the first 0D, at once: the same as `take` of each.
+    pub fn gather(self, bytes: &[u8]) -> Gathered
+        ensures { λ r. ⌜ r ≡ gatheredOf self (now (bytes .entry)) ⌝ }
+        ensures { λ r. ⌜ Holding self (λ l. r ≡ heldGathered l (now (bytes .entry))) ⌝ }
+    {
+        let count = before_end(bytes);
+        let next = self.push_all(&bytes[..count]);
+        Gathered { next, count }
     }
 
     // The line as it stands, judged.
