@@ -6,6 +6,7 @@ use mathlib.Core.List.{List, [], _∷_, _++_}
 use mathlib.Core.Path.{_≡_}
 use lib.Dec.{leb, eqb}
 use lib.ListN.{length, take, set, replicate}
+use Rattle.digits.specs.Digits.{endByte}
 use Rattle.line.specs.Line.{silentOf, identOf, judgeOf}
 use Rattle.receiver.specs.declared.Receiver.{Receiver}
 use Rattle.receiver.specs.declared.Taken.{Taken}
@@ -25,7 +26,7 @@ pub record Receipt : Type 0 where
 -- Byte 0D ends the line, and the next begins; every other byte is a character of it.
 abbrev pub receive : List ℕ → ℕ → Receipt
 receive l b =
-    cond (eqb b 13)
+    cond (eqb b endByte)
     (record { line = []; heard = heardLine l })
     (record { line = l ++ (b ∷ []); heard = Character })
 
@@ -38,7 +39,7 @@ before marks (b ∷ bs) = cond (marks b) [] (b ∷ before marks bs)
 
 -- Those before the first 0D: characters all of them.
 abbrev pub beforeEnd : List ℕ → List ℕ
-beforeEnd bs = before (λ b. eqb b 13) bs
+beforeEnd bs = before (λ b. eqb b endByte) bs
 
 -- ---- How the characters are held: the first ten, zeros after them, and their count up to ten.
 
@@ -73,7 +74,7 @@ pushOf r b =
 
 abbrev pub takenOf : Receiver → ℕ → Taken
 takenOf r b =
-    cond (eqb b 13)
+    cond (eqb b endByte)
     (record { next = holding []; heard = heardOf r })
     (record { next = pushOf r b; heard = Character })
 

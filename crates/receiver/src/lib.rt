@@ -6,11 +6,9 @@ ghost use mathlib.Core.List.{[]};
 ghost use lib.ListN.{length};
 ghost use Rattle.receiver.specs.Receiver.{holding, pushOf, takenOf, receive, heldTaken, heardOf, Holding};
 ghost use Rattle.receiver.specs.Receiver.{beforeEnd, pushAll, gatheredOf, heldGathered};
+use digits::END;
 use digits::Ident;
 use line::Judged;
-
-// Byte 0D, which ends a line.
-const END: u8 = 13;
 
 // The line that is being received: its first ten characters, zeros after them, and their count. Twelve bytes: eleven
 // would be copied in parts that overlap, and a tick would wait for them.
