@@ -1,167 +1,110 @@
 -- Each command that fits, as the controller judges the letter and digits of its line: accepted as that very command.
 -- Assumes nothing.
-use Prim.Native.Nat.{ℕ, _+_, _/_, _%_, _≤_, _<_}
+use Prim.Native.Nat.{ℕ, _+_, _*_, _/_, _%_, _≤_, _<_}
 use native.Mathlib.Omega.{arith}
 use mathlib.Core.Bool.{Bool, true, false, false≢true}
 use mathlib.Core.Path.{_≡_, refl, sym}
-use borrow.Author.Tests.{lt-ltb, le-leb, lt-leb, eqb-true}
-use lib.Dec.{eqb}
-use Rattle.laws.proofs.Tests.{both}
-use Rattle.line.specs.declared.Command.{Command}
-use Rattle.line.specs.declared.Command.the-variants as C
+use borrow.Author.Tests.{lt-ltb, le-leb, lt-leb}
+use Rattle.digits.specs.Digits.{fourDigits, sixDigits, topBit}
+use Rattle.line.specs.declared.command.Reading.{Reading}
+use Rattle.line.specs.declared.command.Reading.the-variants as R
+use Rattle.line.specs.declared.command.Command.{Command}
+use Rattle.line.specs.declared.command.Command.the-variants as C
 use Rattle.line.specs.declared.Judged.the-variants.{Accepted}
-use Rattle.line.specs.Line.{isQuery, judgeForm, judgeValue, inputBits}
+use Rattle.line.specs.Ranges.{readingFits}
+use Rattle.line.specs.Codes.{isInputs, isQuery}
+use Rattle.line.specs.Line.{judgeRow, judgeValue}
 use Rattle.line.specs.Fits.{CommandFits}
+use Rattle.line.proofs.Ranges.{axis, distance, outputs, bits-low, by-order, by-setting, is-within}
 use Rattle.host.specs.Writer.{letterOf, digitsOf}
+use Rattle.host.proofs.Contents.{code-back, five-back, setting-low}
 
 -- A command with its letter and six digits, judged.
 abbrev Taken : Command → Type 0
 Taken c = judgeValue (letterOf c) 6 (digitsOf c) ≡ Accepted c (digitsOf c)
 
-accept-distance : (k : ℕ) (minus : Bool) (d : ℕ) → k < 5 → d < 524288 → Taken (C.Distance k minus d)
-unfolding judgeForm
+accept-distance : (k : ℕ) (minus : Bool) (d : ℕ) → k < 5 → d < topBit → Taken (C.Distance k minus d)
+unfolding judgeRow
 accept-distance k true d h j =
-    let e : digitsOf (C.Distance k true d) / 1048576 ≡ k = omega arith in
-    let f : digitsOf (C.Distance k true d) % 1048576 ≡ 524288 + d = omega arith in
-    let g : (524288 + d) % 524288 ≡ d = omega arith in
-    let l : 524288 ≤ 524288 + d = omega arith in
-    rw (e, lt-ltb k 5 h, f, g, le-leb 524288 (524288 + d) l)
+    let e = code-back k (topBit + d) (omega arith) in
+    let f = five-back k (topBit + d) (omega arith) in
+    let g : (topBit + d) % topBit ≡ d = omega arith in
+    let a = lt-ltb k 5 h in
+    rw (e, f, a, g, a, lt-ltb d topBit j, le-leb topBit (topBit + d) (omega arith))
 accept-distance k false d h j =
-    let e : digitsOf (C.Distance k false d) / 1048576 ≡ k = omega arith in
-    let f : digitsOf (C.Distance k false d) % 1048576 ≡ d = omega arith in
-    let g : d % 524288 ≡ d = omega arith in
-    rw (e, lt-ltb k 5 h, f, g, lt-leb 524288 d j)
+    let e = code-back k (0 + d) (omega arith) in
+    let f = five-back k (0 + d) (omega arith) in
+    let g : (0 + d) % topBit ≡ d = omega arith in
+    let a = lt-ltb k 5 h in
+    rw (e, f, a, g, a, lt-ltb d topBit j, lt-leb topBit (0 + d) (omega arith))
 
-accept-speed : (v : ℕ) → 1 ≤ v → v ≤ 1000000 → Taken (C.Speed v)
-unfolding judgeForm
-accept-speed v h j =
-    let e : digitsOf (C.Speed v) / 1048576 ≡ 8 = omega arith in
-    let f : digitsOf (C.Speed v) % 1048576 ≡ v = omega arith in
-    rw (e, f, le-leb 1 v h, le-leb v 1000000 j)
-
-accept-slope : (v : ℕ) → 1 ≤ v → v ≤ 4095 → Taken (C.Slope v)
-unfolding judgeForm
-accept-slope v h j =
-    let e : digitsOf (C.Slope v) / 1048576 ≡ 9 = omega arith in
-    let f : digitsOf (C.Slope v) % 1048576 ≡ v = omega arith in
-    rw (e, f, le-leb 1 v h, le-leb v 4095 j)
-
-accept-dwell : (v : ℕ) → v ≤ 16383 → Taken (C.Dwell v)
-unfolding judgeForm
-accept-dwell v h =
-    let e : digitsOf (C.Dwell v) / 1048576 ≡ 10 = omega arith in
-    let f : digitsOf (C.Dwell v) % 1048576 ≡ v = omega arith in
-    rw (e, f, le-leb v 16383 h)
-
-accept-watch : (v : ℕ) → v ≤ 3 → Taken (C.Watch v)
-unfolding judgeForm
+accept-watch : (v : ℕ) → v ≤ 3 → Taken (C.Set 11 v)
+unfolding judgeRow
 accept-watch v h =
-    let e : digitsOf (C.Watch v) / 1048576 ≡ 11 = omega arith in
-    let f : digitsOf (C.Watch v) % 1048576 / 65536 ≡ v = omega arith in
-    rw (e, f, le-leb v 3 h)
+    let e = code-back 11 (v * fourDigits) (omega arith) in
+    let f = five-back 11 (v * fourDigits) (omega arith) in
+    let g : v * fourDigits / fourDigits ≡ v = omega arith in
+    rw (e, f, g, le-leb v 3 h)
 
-accept-polarity : (v : ℕ) → v ≤ 4095 → Taken (C.Polarity v)
-unfolding judgeForm
-accept-polarity v h =
-    let e : digitsOf (C.Polarity v) / 1048576 ≡ 12 = omega arith in
-    let f : digitsOf (C.Polarity v) % 1048576 ≡ v = omega arith in
-    rw (e, f, le-leb v 4095 h)
-
-accept-travel : (k : ℕ) → k < 5 → Taken (C.Travel k)
-unfolding judgeForm
-accept-travel k h =
-    let e : digitsOf (C.Travel k) / 1048576 ≡ k = omega arith in
-    rw (e, lt-ltb k 5 h)
+accept-setting : (k v : ℕ) → CommandFits (C.Set k v) → Taken (C.Set k v)
+unfolding judgeRow
+accept-setting k v h =
+    by-setting (λ (c w : ℕ). Taken (C.Set c w)) k v
+    (λ low high. rw (code-back 8 v (omega arith), five-back 8 v (omega arith), is-within v 1 1000000 low high))
+    (λ low high. rw (code-back 9 v (omega arith), five-back 9 v (omega arith), is-within v 1 4095 low high))
+    (λ high. rw (code-back 10 v (omega arith), five-back 10 v (omega arith), le-leb v 16383 high))
+    (accept-watch v)
+    (λ high. rw (code-back 12 v (omega arith), five-back 12 v (omega arith), le-leb v 4095 high))
+    (λ bits. rw (code-back 13 v (setting-low k v h), five-back 13 v (setting-low k v h), bits))
+    (λ bits. rw (code-back 14 v (setting-low k v h), five-back 14 v (setting-low k v h), bits)) h
 
 accept-start : (k : ℕ) (waits : Bool) → k < 5 → Taken (C.Start k waits)
-unfolding judgeForm
+unfolding judgeRow
 accept-start k true h =
-    let e : digitsOf (C.Start k true) / 1048576 ≡ 8 = omega arith in
-    let f : digitsOf (C.Start k true) % 1048576 / 65536 ≡ 8 + k = omega arith in
-    let g : (8 + k) % 8 ≡ k = omega arith in
-    let a : 4 < 8 + k = omega arith in
-    let b : 8 ≤ 8 + k = omega arith in
-    let d : 8 + k ≤ 12 = omega arith in
-    rw (e, f, g, lt-leb (8 + k) 4 a, le-leb 8 (8 + k) b, le-leb (8 + k) 12 d)
+    let e = code-back 8 ((8 + k) * fourDigits) (omega arith) in
+    let f = five-back 8 ((8 + k) * fourDigits) (omega arith) in
+    let g : (8 + k) * fourDigits / fourDigits ≡ 8 + k = omega arith in
+    let j : (8 + k) % 8 ≡ k = omega arith in
+    rw (e, f, g, j, le-leb 8 (8 + k) (omega arith), lt-ltb k 5 h)
 accept-start k false h =
-    let e : digitsOf (C.Start k false) / 1048576 ≡ 8 = omega arith in
-    let f : digitsOf (C.Start k false) % 1048576 / 65536 ≡ k = omega arith in
-    let g : k % 8 ≡ k = omega arith in
-    let a : k ≤ 4 = omega arith in
-    let b : k < 8 = omega arith in
-    rw (e, f, g, le-leb k 4 a, lt-leb 8 k b)
+    let e = code-back 8 ((0 + k) * fourDigits) (omega arith) in
+    let f = five-back 8 ((0 + k) * fourDigits) (omega arith) in
+    let g : (0 + k) * fourDigits / fourDigits ≡ k = omega arith in
+    let j : k % 8 ≡ k = omega arith in
+    rw (e, f, g, j, lt-leb 8 k (omega arith), lt-ltb k 5 h)
 
-accept-low : (v : ℕ) → v < 16384 → inputBits v ≡ true → Taken (C.LowOn v)
-unfolding judgeForm
-accept-low v h j =
-    let e : digitsOf (C.LowOn v) / 1048576 ≡ 13 = omega arith in
-    let f : digitsOf (C.LowOn v) % 1048576 ≡ v = omega arith in
-    rw (e, f, j)
-
-accept-high : (v : ℕ) → v < 16384 → inputBits v ≡ true → Taken (C.HighOn v)
-unfolding judgeForm
-accept-high v h j =
-    let e : digitsOf (C.HighOn v) / 1048576 ≡ 14 = omega arith in
-    let f : digitsOf (C.HighOn v) % 1048576 ≡ v = omega arith in
-    rw (e, f, j)
-
-accept-position : (k : ℕ) → k < 5 → Taken (C.Position k)
-unfolding judgeForm
-accept-position k h =
-    let e : digitsOf (C.Position k) / 1048576 ≡ k = omega arith in
-    rw (e, lt-ltb k 5 h)
-
-accept-outputs : (v : ℕ) → Taken (C.Outputs v)
-unfolding judgeForm
-accept-outputs v = refl
-
--- Input settings have no bit from 14 on.
-pub bits-low : (v : ℕ) → inputBits v ≡ true → v < 16384
-bits-low v e = small (eqb-true (v / 16384) 0 (both (eqb (v / 16384) 0) (eqb (v / 1024 % 4) 0) e .0))
-  where
-    small : v / 16384 ≡ 0 → v < 16384
-    small h = omega arith
+accept-reading : (r : Reading) → readingFits r ≡ true → isInputs r ≡ false → Taken (C.Read r)
+unfolding judgeRow
+accept-reading (R.Travel k) h q = rw (code-back k 0 (omega arith), h, h)
+accept-reading (R.Position k) h q = rw (code-back k 0 (omega arith), h, h)
+accept-reading R.Status h q = refl
+accept-reading R.Everything h q = refl
+accept-reading R.Inputs h q = absurd (false≢true (sym q))
 
 pub accepts : (c : Command) → CommandFits c → isQuery c ≡ false → Taken c
-unfolding judgeForm
-accepts (C.Distance k minus d) h q = accept-distance k minus d (h .0) (h .1)
-accepts (C.Speed v) h q = accept-speed v (h .0) (h .1)
-accepts (C.Slope v) h q = accept-slope v (h .0) (h .1)
-accepts (C.Dwell v) h q = accept-dwell v h
-accepts (C.Watch v) h q = accept-watch v h
-accepts (C.Polarity v) h q = accept-polarity v h
-accepts (C.Travel k) h q = accept-travel k h
-accepts C.Status h q = refl
-accepts (C.Start k waits) h q = accept-start k waits h
-accepts C.Stop h q = refl
-accepts C.ClearWrongMaster h q = refl
-accepts C.ResetPositions h q = refl
-accepts (C.LowOn v) h q = accept-low v (bits-low v h) h
-accepts (C.HighOn v) h q = accept-high v (bits-low v h) h
-accepts (C.Position k) h q = accept-position k h
-accepts C.Everything h q = refl
-accepts C.Inputs h q = absurd (false≢true (sym q))
-accepts (C.Outputs v) h q = accept-outputs v
+unfolding judgeRow
+accepts (C.Distance k minus d) h q = let t = distance k minus d h in accept-distance k minus d (t .0) (t .1)
+accepts (C.Set k v) h q = accept-setting k v h
+accepts (C.Start k waits) h q = accept-start k waits (axis k h)
+accepts (C.Order k) h q = by-order (λ (c : ℕ). Taken (C.Order c)) refl refl refl k h
+accepts (C.Outputs v) h q = rw h
+accepts (C.Read r) h q = accept-reading r h q
 
 -- The six digits are a number of 24 bits.
-pub digits-fit : (c : Command) → CommandFits c → digitsOf c < 16777216
-digits-fit (C.Distance k true d) h = let a = h .0 in let b = h .1 in omega arith
-digits-fit (C.Distance k false d) h = let a = h .0 in let b = h .1 in omega arith
-digits-fit (C.Speed v) h = let a = h .1 in omega arith
-digits-fit (C.Slope v) h = let a = h .1 in omega arith
-digits-fit (C.Dwell v) h = omega arith
-digits-fit (C.Watch v) h = omega arith
-digits-fit (C.Polarity v) h = omega arith
-digits-fit (C.Travel k) h = omega arith
-digits-fit C.Status h = omega arith
-digits-fit (C.Start k true) h = omega arith
-digits-fit (C.Start k false) h = omega arith
-digits-fit C.Stop h = omega arith
-digits-fit C.ClearWrongMaster h = omega arith
-digits-fit C.ResetPositions h = omega arith
-digits-fit (C.LowOn v) h = let a = bits-low v h in omega arith
-digits-fit (C.HighOn v) h = let a = bits-low v h in omega arith
-digits-fit (C.Position k) h = omega arith
-digits-fit C.Everything h = omega arith
-digits-fit C.Inputs h = omega arith
-digits-fit (C.Outputs v) h = h
+pub digits-fit : (c : Command) → CommandFits c → digitsOf c < sixDigits
+digits-fit (C.Distance k true d) h = let t = distance k true d h in omega (arith, t .0, t .1)
+digits-fit (C.Distance k false d) h = let t = distance k false d h in omega (arith, t .0, t .1)
+digits-fit (C.Set k v) h =
+    by-setting (λ (c w : ℕ). digitsOf (C.Set c w) < sixDigits) k v (λ _ j. omega arith) (λ _ j. omega arith)
+    (λ j. omega arith) (λ j. omega arith) (λ j. omega arith) (λ j. omega (arith, bits-low v j))
+    (λ j. omega (arith, bits-low v j)) h
+digits-fit (C.Start k true) h = let t = axis k h in omega arith
+digits-fit (C.Start k false) h = let t = axis k h in omega arith
+digits-fit (C.Order k) h =
+    by-order (λ (c : ℕ). digitsOf (C.Order c) < sixDigits) (omega arith) (omega arith) (omega arith) k h
+digits-fit (C.Outputs v) h = outputs v h
+digits-fit (C.Read (R.Travel k)) h = let t = axis k h in omega arith
+digits-fit (C.Read (R.Position k)) h = let t = axis k h in omega arith
+digits-fit (C.Read R.Status) h = omega arith
+digits-fit (C.Read R.Everything) h = omega arith
+digits-fit (C.Read R.Inputs) h = omega arith

@@ -6,23 +6,24 @@ use lib.ListN.{replicate}
 use Rattle.digits.specs.Digits.{sixOf}
 use Rattle.digits.specs.declared.Ident.the-variants.{Absent, Given}
 use Rattle.block.specs.Block.{blockOf, over}
-use Rattle.line.specs.declared.Command.the-variants as C
+use Rattle.line.specs.declared.command.Reading.the-variants as R
+use Rattle.line.specs.declared.command.Command.the-variants as C
 use Rattle.line.proofs.Examples.{chars}
 use Rattle.host.specs.declared.Request.{Request}
 use Rattle.host.specs.Master.{masterOf}
 use Rattle.host.specs.Writer.{lineOf, line, refused, writtenOf, bufferOf}
 
 abbrev query : Request
-query = record { silent = false; command = C.Inputs; ident = Absent }
+query = record { silent = false; command = C.Read R.Inputs; ident = Absent }
 
 abbrev named : Request
-named = record { silent = false; command = C.Inputs; ident = Given 49 }
+named = record { silent = false; command = C.Read R.Inputs; ident = Given 49 }
 
 abbrev minusZero : Request
 minusZero = record { silent = true; command = C.Distance 0 true 0; ident = Given 55 }
 
 abbrev tooFast : Request
-tooFast = record { silent = false; command = C.Speed 1000001; ident = Absent }
+tooFast = record { silent = false; command = C.Set 8 1000001; ident = Absent }
 
 pub record Examples : Type 0 where
   pub query-line : lineOf query ≡ chars "W0" ++ (13 ∷ [])

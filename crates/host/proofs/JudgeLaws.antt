@@ -1,31 +1,31 @@
--- An accepted line's identification is one that the writer writes with its command. Assumes nothing.
+-- Of an accepted line: its command is in range, and its identification is one that the writer writes with it. Assumes
+-- nothing.
 use Prim.Native.Nat.{ℕ, _-_, _<_, min}
 use native.Mathlib.Omega.{arith}
-use mathlib.Core.Bool.{Bool, true, false, cond}
+use mathlib.Core.Bool.{Bool, true, false, cond, false≢true}
 use mathlib.Core.List.{List}
 use mathlib.Core.Path.{_≡_, refl, sym, ap, subst, _∙_}
 use lib.ListN.{length}
 use Rattle.laws.proofs.Pick.{by-eq}
 use Rattle.digits.specs.Digits.{digitOf, numberOf}
 use Rattle.digits.specs.declared.Ident.{Ident}
-use Rattle.digits.specs.declared.Ident.the-variants.{Absent}
-use Rattle.line.specs.declared.Command.{Command}
+use Rattle.digits.specs.declared.Ident.the-variants.{Absent, Given}
+use Rattle.line.specs.declared.command.Reading.the-variants as R
+use Rattle.line.specs.declared.command.Command.{Command}
+use Rattle.line.specs.declared.command.Command.the-variants as C
 use Rattle.line.specs.declared.Judged.{Judged}
 use Rattle.line.specs.declared.Judged.the-variants.{Accepted, Refused}
-use Rattle.line.specs.Line.{
-  charAt,
-  isIdent,
-  valueOf,
-  identOf,
-  digitCount,
-  digitChars,
-  code,
-  formOf,
-  isQuery,
-  judgeOf,
-}
-use Rattle.line.proofs.Cases.{by-form, by-judge, query-bare}
+use Rattle.line.specs.Codes.{rowOf, isQuery}
+use Rattle.line.specs.Line.{charAt, isIdent, valueOf, identOf, digitCount, digitChars, judgeOf}
+use Rattle.line.specs.Fits.{CommandFits, AcceptedFits, JudgedFits}
+use Rattle.line.proofs.Cases.{by-row, by-judge}
+use Rattle.line.proofs.Fits.{owned, judge-fits}
 use Rattle.host.specs.Writer.{identFits, isAbsent}
+
+pub accepted-fits : (cs : List ℕ) (c : Command) (digits : ℕ) → judgeOf cs ≡ Accepted c digits → CommandFits c
+accepted-fits cs c digits e =
+    let f : AcceptedFits c digits = subst JudgedFits e (judge-fits cs) in
+    f .command
 
 pub ident-fits : (cs : List ℕ) → isIdent (digitOf (charAt cs 8)) ≡ true → identFits (identOf cs) ≡ true
 ident-fits cs e = by-eq (λ (i : Ident). identFits i ≡ true) (length cs) 9 _ _ (λ _. e) (λ _. refl)
@@ -42,10 +42,10 @@ line-named : (cs : List ℕ) → Named (identOf cs) (digitCount cs) (judgeOf cs)
 line-named cs =
     let count = digitCount cs in
     let n = valueOf (numberOf (digitChars cs)) in
-    let form = formOf (charAt cs 0) count (code n) in
+    let letter = charAt cs 0 in
     by-judge (Named (identOf cs) count) cs always always always always
-    (λ e. by-form (Named (identOf cs) count) form count n always always always
-    (λ _. (ident-fits cs e, query-bare form count n)))
+    λ e. by-row (Named (identOf cs) count) (rowOf letter count n) count n always always always
+    λ least c q _. (ident-fits cs e, owned count n letter least c q .bare)
 
 -- A line with no digits has no identification.
 bare-absent : (cs : List ℕ) → digitCount cs ≡ 0 → isAbsent (identOf cs) ≡ true
@@ -66,3 +66,21 @@ accepted-named cs c digits e = when (isQuery c) refl
     when : (q : Bool) → isQuery c ≡ q → cond q (isAbsent (identOf cs)) (identFits (identOf cs)) ≡ true
     when true q = bare-absent cs (named .1 q)
     when false q = named .0
+
+-- ---- a W query is one command, and an absent identification one identification
+
+pub absent-is : (ident : Ident) → isAbsent ident ≡ true → ident ≡ Absent
+absent-is Absent e = refl
+absent-is (Given x) e = absurd (false≢true e)
+
+pub query-is : (c : Command) → isQuery c ≡ true → c ≡ C.Read R.Inputs
+query-is (C.Distance k minus d) e = absurd (false≢true e)
+query-is (C.Set k v) e = absurd (false≢true e)
+query-is (C.Start k waits) e = absurd (false≢true e)
+query-is (C.Order k) e = absurd (false≢true e)
+query-is (C.Outputs v) e = absurd (false≢true e)
+query-is (C.Read (R.Travel k)) e = absurd (false≢true e)
+query-is (C.Read (R.Position k)) e = absurd (false≢true e)
+query-is (C.Read R.Status) e = absurd (false≢true e)
+query-is (C.Read R.Everything) e = absurd (false≢true e)
+query-is (C.Read R.Inputs) e = refl

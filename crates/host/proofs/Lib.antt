@@ -1,8 +1,8 @@
 pub mod Contents
 pub mod Writes
 pub mod Accepts
-pub mod Ranges
 pub mod JudgeLaws
+pub mod Lines
 pub mod RoundTrip
 pub mod MachineTrip
 pub mod LineTrips

@@ -1,26 +1,24 @@
 -- What the writer promises of every request and of every line: the trip of lines and its converse. Assumes nothing.
-use Prim.Native.Nat.{ℕ, _≤_, _<_}
+use Prim.Native.Nat.{ℕ, _≤_}
 use native.Mathlib.Omega.{arith}
-use mathlib.Core.Bool.{Bool, true, false, cond, not, false≢true}
+use mathlib.Core.Bool.{Bool, true, false, cond, not}
 use mathlib.Core.List.{List}
 use mathlib.Core.Path.{_≡_, refl, sym, _∙_}
 use borrow.Author.Tests.{le-ltb}
 use lib.Dec.{ltb}
 use lib.ListN.{length}
 use Rattle.digits.specs.declared.Ident.{Ident}
-use Rattle.line.specs.declared.Command.{Command}
+use Rattle.line.specs.declared.command.Command.{Command}
 use Rattle.line.specs.declared.Judged.{Judged}
 use Rattle.line.specs.declared.Judged.the-variants.{Accepted}
 use Rattle.line.specs.Line.{silentOf, identOf, judgeOf}
-use Rattle.receiver.specs.declared.Heard.{Heard}
 use Rattle.receiver.specs.declared.Heard.the-variants.{Line}
-use Rattle.receiver.specs.Receiver.{heardLine}
 use Rattle.host.specs.declared.Request.{Request}
 use Rattle.host.specs.Writer.{digitsOf, hasLine, lineOf, line, refused, writtenOf}
-use Rattle.host.specs.RoundTrip.{heardAs, requestIn, LineTrip, Asked, LineBack}
-use Rattle.host.proofs.Ranges.{accepted-range}
-use Rattle.host.proofs.JudgeLaws.{accepted-named}
-use Rattle.host.proofs.RoundTrip.{request-lined, round-trip, front-line}
+use Rattle.host.specs.RoundTrip.{requestIn, LineTrip, Asked, LineBack}
+use Rattle.host.proofs.JudgeLaws.{accepted-fits, accepted-named}
+use Rattle.host.proofs.Lines.{request-lined}
+use Rattle.host.proofs.RoundTrip.{round-trip, front-line}
 use Rattle.host.proofs.MachineTrip.{machine-trip}
 
 pub line-trip : LineTrip
@@ -30,7 +28,7 @@ line-trip = record { front = front-line; heard = round-trip; obeys = machine-tri
 
 has-line : (cs : List ℕ) (c : Command) (digits : ℕ) → judgeOf cs ≡ Accepted c digits
     → hasLine (requestIn cs c) ≡ true
-has-line cs c digits e = rw (accepted-range cs c digits e) (accepted-named cs c digits e)
+has-line cs c digits e = rw (accepted-fits cs c digits e) (accepted-named cs c digits e)
 
 -- A request that some line asks for has a line.
 asked-has : (r : Request) → Asked r → hasLine r ≡ true

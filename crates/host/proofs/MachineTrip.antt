@@ -6,24 +6,22 @@ use mathlib.Core.Bool.{Bool, true, false, cond}
 use mathlib.Core.List.{List, [], _∷_, _++_, append-assoc, append-nil}
 use mathlib.Core.Path.{_≡_, refl, sym, ap, _∙_}
 use borrow.Author.Tests.{le-ltb, eq-eqb, ne-eqb}
-use lib.Dec.{leb, eqb}
+use lib.Dec.{eqb}
 use lib.ListN.{length, length-append}
 use Rattle.laws.proofs.Pick.{by-bool}
-use Rattle.line.specs.declared.Command.{Command}
-use Rattle.line.specs.declared.Command.the-variants as C
-use Rattle.line.specs.declared.Judged.the-variants.{Accepted}
 use Rattle.receiver.specs.declared.Heard.{Heard}
 use Rattle.receiver.specs.declared.Heard.the-variants.{Character}
 use Rattle.receiver.specs.Receiver.{Receipt, receive, heardLine}
 use Rattle.machine.specs.State.{Machine, withLine, withWatch}
-use Rattle.machine.specs.Commands.{number, does, turned, stores}
+use Rattle.machine.specs.Commands.{number, does, turned}
 use Rattle.machine.specs.Replies.{replyTo, refusal, unlessSilent}
 use Rattle.machine.specs.Steps.{Outcome, untaken, refused, accepted, outcomeOf, ByteAnswer, answered, byteStep}
-use Rattle.machine.specs.Calls.{Call, byte, run, state}
+use Rattle.machine.specs.Calls.{Call, byte, after, run, state, from}
+use Rattle.machine.proofs.UnalteredLaws.{number-line, does-unaltered, turned-unaltered}
 use Rattle.host.specs.declared.Request.{Request}
 use Rattle.host.specs.Writer.{digitsOf, hasLine, lineOf}
-use Rattle.host.specs.RoundTrip.{answersTo, leftBy, callsOf, gathers, heardAs, answerTo, Obeys}
-use Rattle.host.proofs.RoundTrip.{NoEnd, request-lined}
+use Rattle.host.specs.RoundTrip.{callsOf, answersTo, gathers, heardAs, answerTo, Obeys}
+use Rattle.host.proofs.Lines.{NoEnd, request-lined}
 
 -- ---- characters, then the 0D
 
@@ -38,7 +36,7 @@ more m l c = record { machine = withLine m (l ++ (c ∷ [])); reply = []; number
 abbrev endOf : Machine → List ℕ → ByteAnswer
 endOf m l = answered (withLine m l) 13 (outcomeOf (withLine m l) (heardLine l))
 
-module _ (m : Machine) where
+module _ (o m : Machine) where
   char-step : (l : List ℕ) (c : ℕ) (buffer : List ℕ) → 120 ≤ length buffer → eqb c 13 ≡ false
       → byteStep (withLine m l) c buffer ≡ more m l c
   char-step l c buffer h e =
@@ -55,73 +53,32 @@ module _ (m : Machine) where
       ap (λ (t : Bool). answered (withLine m l) 13 (cond t untaken (outcomeOf (withLine m l) (heardLine l))))
       (le-ltb (length buffer) 120 h)
 
-  line-answers : (l cs : List ℕ) (lent : ℕ → List ℕ) → NoEnd cs → Roomy lent (suc (length cs))
-      → answersTo (withLine m l) lent (cs ++ (13 ∷ [])) ≡ gathers m l cs ++ (endOf m (l ++ cs) ∷ [])
-  line-answers l [] lent h room =
-      rw append-nil (ap (λ (x : ByteAnswer). x ∷ []) (end-step l (lent 0) (room 0 (omega arith))))
-  line-answers l (c ∷ cs) lent h room =
-      ap (λ (x : ByteAnswer). x ∷ answersTo (x .machine) (λ i. lent (suc i)) (cs ++ (13 ∷ [])))
-      (char-step l c (lent 0) (room 0 (omega arith)) (h .0))
-      ∙ ap (λ (x : List ByteAnswer). more m l c ∷ x)
-      (line-answers (l ++ (c ∷ [])) cs (λ i. lent (suc i)) (h .1) (λ i q. room (suc i) (omega arith))
-      ∙ ap (λ (x : List ℕ). gathers m (l ++ (c ∷ [])) cs ++ (endOf m x ∷ [])) (append-assoc l (c ∷ []) cs))
+  -- After calls that left the characters l, characters and a 0D: the answers, and the machine that they leave.
+  record Answers (h : List Call) (l cs : List ℕ) (lent : ℕ → List ℕ) : Type 0 where
+    answers : answersTo o h lent (cs ++ (13 ∷ [])) ≡ gathers m l cs ++ (endOf m (l ++ cs) ∷ [])
+    left : from o (callsOf lent (cs ++ (13 ∷ [])) h) ≡ endOf m (l ++ cs) .machine
 
-  line-leaves : (l cs : List ℕ) (lent : ℕ → List ℕ) → NoEnd cs → Roomy lent (suc (length cs))
-      → leftBy (withLine m l) lent (cs ++ (13 ∷ [])) ≡ endOf m (l ++ cs) .machine
-  line-leaves l [] lent h room =
-      rw append-nil (ap (λ (x : ByteAnswer). x .machine) (end-step l (lent 0) (room 0 (omega arith))))
-  line-leaves l (c ∷ cs) lent h room =
-      ap (λ (x : ByteAnswer). leftBy (x .machine) (λ i. lent (suc i)) (cs ++ (13 ∷ [])))
-      (char-step l c (lent 0) (room 0 (omega arith)) (h .0))
-      ∙ line-leaves (l ++ (c ∷ [])) cs (λ i. lent (suc i)) (h .1) (λ i q. room (suc i) (omega arith))
-      ∙ ap (λ (x : List ℕ). endOf m x .machine) (append-assoc l (c ∷ []) cs)
+  line-answers : (h : List Call) (l cs : List ℕ) (lent : ℕ → List ℕ) → from o h ≡ withLine m l → NoEnd cs
+      → Roomy lent (suc (length cs)) → Answers h l cs lent
+  unfolding run
+  line-answers h l [] lent e q room =
+      let step = ap (λ (x : Machine). byteStep x 13 (lent 0)) e ∙ end-step l (lent 0) (room 0 (omega arith)) in
+      record {
+        answers = rw append-nil (ap (λ (x : ByteAnswer). x ∷ []) step);
+        left = rw append-nil (ap (λ (x : ByteAnswer). x .machine) step);
+      }
+  line-answers h l (c ∷ cs) lent e q room =
+      let step = ap (λ (x : Machine). byteStep x c (lent 0)) e ∙ char-step l c (lent 0) (room 0 (omega arith)) (q .0) in
+      let rest = line-answers (byte c (lent 0) ∷ h) (l ++ (c ∷ [])) cs (λ i. lent (suc i))
+      (ap (λ (x : ByteAnswer). x .machine) step) (q .1) (λ i j. room (suc i) (omega arith)) in
+      let end = append-assoc l (c ∷ []) cs in
+      record {
+        answers = (λ i. step i ∷ rest .answers i)
+            ∙ ap (λ (x : List ℕ). more m l c ∷ (gathers m (l ++ (c ∷ [])) cs ++ (endOf m x ∷ []))) end;
+        left = rest .left ∙ ap (λ (x : List ℕ). endOf m x .machine) end;
+      }
 
 -- ---- what the end of the line leaves
-
-line-does : (m : Machine) (c : Command) → does m c .line ≡ m .line
-line-does m (C.Distance k s d) = refl
-line-does m (C.Speed v) = refl
-line-does m (C.Slope v) = refl
-line-does m (C.Dwell v) = refl
-line-does m (C.Watch v) = refl
-line-does m (C.Polarity v) = refl
-line-does m (C.Travel k) = refl
-line-does m C.Status = refl
-line-does m (C.Start k w) =
-    by-bool (λ (a : Machine). a .line ≡ m .line) (stores m w) _ _ (λ _. refl) (λ _. refl)
-line-does m C.Stop = by-bool (λ (a : Machine). a .line ≡ m .line) (m .move .moving) _ _ (λ _. refl) (λ _. refl)
-line-does m C.ClearWrongMaster = refl
-line-does m C.ResetPositions = refl
-line-does m (C.LowOn v) = refl
-line-does m (C.HighOn v) = refl
-line-does m (C.Position k) = refl
-line-does m C.Everything = refl
-line-does m C.Inputs = refl
-line-does m (C.Outputs v) = refl
-
-line-turned : (m : Machine) (n : ℕ) → turned m n .line ≡ m .line
-line-turned m n = by-bool (λ (a : Machine). a .line ≡ m .line) (leb 10 n) _ _ (λ _. refl) (λ _. refl)
-
--- The characters received do not count in a command's number.
-number-line : (m : Machine) (l : List ℕ) (c : Command) → number (withLine m l) c ≡ number m c
-number-line m l (C.Distance k s d) = refl
-number-line m l (C.Speed v) = refl
-number-line m l (C.Slope v) = refl
-number-line m l (C.Dwell v) = refl
-number-line m l (C.Watch v) = refl
-number-line m l (C.Polarity v) = refl
-number-line m l (C.Travel k) = refl
-number-line m l C.Status = refl
-number-line m l (C.Start k w) = refl
-number-line m l C.Stop = refl
-number-line m l C.ClearWrongMaster = refl
-number-line m l C.ResetPositions = refl
-number-line m l (C.LowOn v) = refl
-number-line m l (C.HighOn v) = refl
-number-line m l (C.Position k) = refl
-number-line m l C.Everything = refl
-number-line m l C.Inputs = refl
-number-line m l (C.Outputs v) = refl
 
 module _ (m : Machine) (r : Request) where
   -- What comes of the line, n being the command's number.
@@ -141,7 +98,8 @@ module _ (m : Machine) (r : Request) where
   end-clear : answerTo m r .machine .line ≡ []
   end-clear =
       by-bool (λ (o : Outcome). answered m 13 o .machine .line ≡ []) (eqb (number m (r .command)) 0) _ _
-      (λ _. line-does (withLine m []) (r .command)) (λ _. line-turned (withLine m []) (number m (r .command)))
+      (λ _. does-unaltered (withLine m []) (r .command) .line)
+      (λ _. turned-unaltered (withLine m []) (number m (r .command)) .line)
 
   module _ (none : m .line ≡ []) where
     same : withLine m [] ≡ m
@@ -178,30 +136,36 @@ module _ (m : Machine) (r : Request) where
 -- Any machine with no half-received line, any request with a line, any buffers with room.
 pub machine-trip : (m : Machine) (r : Request) (lent : ℕ → List ℕ) → m .line ≡ [] → hasLine r ≡ true
     → ((i : ℕ) → i < length (lineOf r) → 120 ≤ length (lent i)) → Obeys m r lent
+unfolding run
 machine-trip m r lent none e room =
     let l = request-lined r e in
     let size : length (lineOf r) ≡ suc (length (l .chars)) =
     omega (arith, ap length (l .ended), length-append (l .chars) (13 ∷ [])) in
     let lent-room : Roomy lent (suc (length (l .chars))) = λ i h. room i (omega arith) in
+    let a = line-answers m m [] [] (l .chars) lent (λ i. withLine m (none i)) (l .no-end) lent-room in
+    let end = end-answer m r (l .chars) (l .heard) in
     record {
       chars = l .chars;
       ended = l .ended;
-      answers =
-          (λ i. answersTo (withLine m (none i)) lent (l .ended i))
-          ∙ line-answers m [] (l .chars) lent (l .no-end) lent-room
-          ∙ ap (λ (x : ByteAnswer). gathers m [] (l .chars) ++ (x ∷ [])) (end-answer m r (l .chars) (l .heard));
-      left =
-          (λ i. leftBy (withLine m (none i)) lent (l .ended i))
-          ∙ line-leaves m [] (l .chars) lent (l .no-end) lent-room
-          ∙ ap (λ (x : ByteAnswer). x .machine) (end-answer m r (l .chars) (l .heard));
+      answers = ap (answersTo m [] lent) (l .ended) ∙ a .answers
+          ∙ ap (λ (x : ByteAnswer). gathers m [] (l .chars) ++ (x ∷ [])) end;
+      left = ap (λ (x : List ℕ). from m (callsOf lent x [])) (l .ended) ∙ a .left
+          ∙ ap (λ (x : ByteAnswer). x .machine) end;
       clear = end-clear m r;
       obeyed = end-obeyed m r none;
       turnedAway = end-turned m r none;
     }
 
--- In a list of calls the bytes leave the same machine.
-pub calls-left : (s : ℕ) (lent : ℕ → List ℕ) (bs : List ℕ) (h : List Call)
-    → state s (callsOf lent bs h) ≡ leftBy (state s h) lent bs
+-- ---- in a list of calls from power-on
+
+-- The calls g behind the calls h.
+state-on : (s : ℕ) (g h : List Call) → state s (g ++ h) ≡ from (state s h) g
 unfolding run
-calls-left s lent [] h = refl
-calls-left s lent (b ∷ bs) h = calls-left s (λ i. lent (suc i)) bs (byte b (lent 0) ∷ h)
+state-on s [] h = refl
+state-on s (x ∷ g) h = ap (λ (m : Machine). after m x) (state-on s g h)
+
+-- The bytes leave the same machine.
+pub calls-left : (s : ℕ) (lent : ℕ → List ℕ) (bs : List ℕ) (g h : List Call)
+    → state s (callsOf lent bs (g ++ h)) ≡ from (state s h) (callsOf lent bs g)
+calls-left s lent [] g h = state-on s g h
+calls-left s lent (b ∷ bs) g h = calls-left s (λ i. lent (suc i)) bs (byte b (lent 0) ∷ g) h

@@ -7,7 +7,7 @@ use mathlib.Core.List.{List, [], _∷_, _++_}
 use mathlib.Core.Path.{_≡_}
 use lib.ListN.{length}
 use Rattle.block.specs.Block.{frontOf}
-use Rattle.line.specs.declared.Command.{Command}
+use Rattle.line.specs.declared.command.Command.{Command}
 use Rattle.line.specs.declared.Judged.the-variants.{Accepted}
 use Rattle.line.specs.Line.{silentOf, identOf, judgeOf}
 use Rattle.receiver.specs.declared.Heard.{Heard}
@@ -17,7 +17,7 @@ use Rattle.machine.specs.State.{Machine, withLine, withWatch}
 use Rattle.machine.specs.Commands.{number, does, turned}
 use Rattle.machine.specs.Replies.{replyTo, refusal, unlessSilent}
 use Rattle.machine.specs.Steps.{ByteAnswer, decided, answered, byteStep}
-use Rattle.machine.specs.Calls.{Call, byte}
+use Rattle.machine.specs.Calls.{Call, byte, from}
 use Rattle.host.specs.declared.Request.{Request}
 use Rattle.host.specs.Writer.{digitsOf, hasLine, lineOf, line, refused, writtenOf, bufferOf}
 
@@ -33,22 +33,17 @@ abbrev pub endedAfter : ℕ → Heard → List Heard
 endedAfter zero end = end ∷ []
 endedAfter (suc n) end = Character ∷ endedAfter n end
 
--- What the machine answers to each, given to the machine that the one before it left; the byte at place i comes with
--- the lent buffer `lent i`.
-abbrev pub answersTo : Machine → (ℕ → List ℕ) → List ℕ → List ByteAnswer
-answersTo m lent [] = []
-answersTo m lent (b ∷ bs) =
-    byteStep m b (lent 0) ∷ answersTo (byteStep m b (lent 0) .machine) (λ i. lent (suc i)) bs
-
--- The machine that the last of them leaves.
-abbrev pub leftBy : Machine → (ℕ → List ℕ) → List ℕ → Machine
-leftBy m lent [] = m
-leftBy m lent (b ∷ bs) = leftBy (byteStep m b (lent 0) .machine) (λ i. lent (suc i)) bs
-
--- The same bytes as calls after the calls h, the latest first, as lists of calls are.
+-- The bytes as calls after the calls h, the latest first, as lists of calls are; the byte at place i comes with the
+-- lent buffer `lent i`.
 abbrev pub callsOf : (ℕ → List ℕ) → List ℕ → List Call → List Call
 callsOf lent [] h = h
 callsOf lent (b ∷ bs) h = callsOf (λ i. lent (suc i)) bs (byte b (lent 0) ∷ h)
+
+-- What the machine m answers to each, after the calls h.
+abbrev pub answersTo : Machine → List Call → (ℕ → List ℕ) → List ℕ → List ByteAnswer
+answersTo m h lent [] = []
+answersTo m h lent (b ∷ bs) =
+    byteStep (from m h) b (lent 0) ∷ answersTo m (byte b (lent 0) ∷ h) (λ i. lent (suc i)) bs
 
 -- The answers to characters of a line, l being those received before: no reply, number 0, and one character more.
 abbrev pub gathers : Machine → List ℕ → List ℕ → List ByteAnswer
@@ -72,8 +67,8 @@ pub record Obeys (m : Machine) (r : Request) (lent : ℕ → List ℕ) : Type 0 
   pub chars : List ℕ
   pub ended : lineOf r ≡ chars ++ (13 ∷ [])
   -- every byte but the last answers no reply and number 0, the last what r asks for
-  pub answers : answersTo m lent (lineOf r) ≡ gathers m [] chars ++ (answerTo m r ∷ [])
-  pub left : leftBy m lent (lineOf r) ≡ answerTo m r .machine
+  pub answers : answersTo m [] lent (lineOf r) ≡ gathers m [] chars ++ (answerTo m r ∷ [])
+  pub left : from m (callsOf lent (lineOf r) []) ≡ answerTo m r .machine
   -- no half-received line is left
   pub clear : answerTo m r .machine .line ≡ []
   -- accepted: what the command does, its reply, and number 0

@@ -3,92 +3,68 @@
 use Prim.Native.Nat.{ℕ, _+_, _*_}
 use mathlib.Core.Bool.{Bool, true, false, cond, not, _&&_}
 use mathlib.Core.List.{List, [], _∷_}
-use lib.Dec.{ltb}
+use lib.Dec.{ltb, eqb}
 use lib.ListN.{length}
 use Rattle.laws.specs.Bits.{weight}
-use Rattle.digits.specs.Digits.{digitOf, capitalOf}
+use Rattle.digits.specs.Digits.{fourDigits, topBit, digitOf, capitalOf}
 use Rattle.digits.specs.declared.Ident.{Ident}
 use Rattle.digits.specs.declared.Ident.the-variants.{Absent, Given}
 use Rattle.block.specs.Block.{blockOf, over}
-use Rattle.line.specs.Line.{isWithin, inputBits, isIdent, isQuery}
-use Rattle.line.specs.declared.Command.{Command}
-use Rattle.line.specs.declared.Command.the-variants as C
+use Rattle.line.specs.Ranges.{fits}
+use Rattle.line.specs.Codes.{letterP, letterQ, letterq, letterW, isQuery}
+use Rattle.line.specs.Line.{isIdent}
+use Rattle.line.specs.declared.command.Reading.{Reading}
+use Rattle.line.specs.declared.command.Reading.the-variants as R
+use Rattle.line.specs.declared.command.Command.{Command}
+use Rattle.line.specs.declared.command.Command.the-variants as C
+use Rattle.reply.specs.Reply.{coded}
 use Rattle.host.specs.declared.Request.{Request}
 use Rattle.host.specs.declared.Written.{Written}
 use Rattle.host.specs.declared.Written.the-variants.{Length, Refused}
 use Rattle.host.specs.declared.content.Content.{Content}
-use Rattle.host.specs.declared.content.Content.the-variants.{Nothing, Query, Digits}
 
 -- ---- A command's letter and digits ("Lines"; chapter 7)
 
-abbrev pub letterOf : Command → ℕ
-letterOf (C.Distance k minus d) = 80
-letterOf (C.Speed v) = 80
-letterOf (C.Slope v) = 80
-letterOf (C.Dwell v) = 80
-letterOf (C.Watch v) = 80
-letterOf (C.Polarity v) = 80
-letterOf (C.Travel k) = 81
-letterOf C.Status = 81
-letterOf (C.Start k waits) = 81
-letterOf C.Stop = 81
-letterOf C.ClearWrongMaster = 81
-letterOf C.ResetPositions = 81
-letterOf (C.LowOn v) = 81
-letterOf (C.HighOn v) = 81
-letterOf (C.Position k) = 113
-letterOf C.Everything = 113
-letterOf C.Inputs = 87
-letterOf (C.Outputs v) = 87
+-- A reading of positions or of everything is q's, of the inputs W's.
+abbrev pub readingLetter : Reading → ℕ
+readingLetter (R.Travel k) = letterQ
+readingLetter (R.Position k) = letterq
+readingLetter R.Status = letterQ
+readingLetter R.Everything = letterq
+readingLetter R.Inputs = letterW
 
--- A code and the five digits after it.
-abbrev pub coded : ℕ → ℕ → ℕ
-coded code v = code * 1048576 + v
+-- Settings are P's up to C, those of the inputs Q's.
+abbrev pub letterOf : Command → ℕ
+letterOf (C.Distance k minus d) = letterP
+letterOf (C.Set code v) = cond (ltb code 13) letterP letterQ
+letterOf (C.Start k waits) = letterQ
+letterOf (C.Order code) = letterQ
+letterOf (C.Outputs v) = letterW
+letterOf (C.Read r) = readingLetter r
+
+-- The code alone; a W query has none.
+abbrev pub readingDigits : Reading → ℕ
+readingDigits (R.Travel k) = coded k 0
+readingDigits (R.Position k) = coded k 0
+readingDigits R.Status = coded 6 0
+readingDigits R.Everything = coded 8 0
+readingDigits R.Inputs = 0
 
 -- The six digits: a distance's top bit is minus; watch and start have their value in the second digit, a start from 8
 -- on where it waits; digits without meaning are 0.
 abbrev pub digitsOf : Command → ℕ
-digitsOf (C.Distance k minus d) = coded k (weight minus 524288 + d)
-digitsOf (C.Speed v) = coded 8 v
-digitsOf (C.Slope v) = coded 9 v
-digitsOf (C.Dwell v) = coded 10 v
-digitsOf (C.Watch v) = coded 11 (v * 65536)
-digitsOf (C.Polarity v) = coded 12 v
-digitsOf (C.Travel k) = coded k 0
-digitsOf C.Status = coded 6 0
-digitsOf (C.Start k waits) = coded 8 ((weight waits 8 + k) * 65536)
-digitsOf C.Stop = coded 9 0
-digitsOf C.ClearWrongMaster = coded 10 0
-digitsOf C.ResetPositions = coded 11 0
-digitsOf (C.LowOn v) = coded 13 v
-digitsOf (C.HighOn v) = coded 14 v
-digitsOf (C.Position k) = coded k 0
-digitsOf C.Everything = coded 8 0
-digitsOf C.Inputs = 0
+digitsOf (C.Distance k minus d) = coded k (weight minus topBit + d)
+digitsOf (C.Set code v) = coded code (cond (eqb code 11) (v * fourDigits) v)
+digitsOf (C.Start k waits) = coded 8 ((weight waits 8 + k) * fourDigits)
+digitsOf (C.Order code) = coded code 0
 digitsOf (C.Outputs v) = v
+digitsOf (C.Read r) = readingDigits r
 
--- ---- Which values have a line
+-- Both.
+abbrev pub contentOf : Command → Content
+contentOf c = record { letter = letterOf c; number = digitsOf c }
 
--- The fields are in the ranges of "Lines".
-abbrev pub inRange : Command → Bool
-inRange (C.Distance k minus d) = ltb k 5 && ltb d 524288
-inRange (C.Speed v) = isWithin v 1 1000000
-inRange (C.Slope v) = isWithin v 1 4095
-inRange (C.Dwell v) = isWithin v 0 16383
-inRange (C.Watch v) = ltb v 4
-inRange (C.Polarity v) = isWithin v 0 4095
-inRange (C.Travel k) = ltb k 5
-inRange C.Status = true
-inRange (C.Start k waits) = ltb k 5
-inRange C.Stop = true
-inRange C.ClearWrongMaster = true
-inRange C.ResetPositions = true
-inRange (C.LowOn v) = inputBits v
-inRange (C.HighOn v) = inputBits v
-inRange (C.Position k) = ltb k 5
-inRange C.Everything = true
-inRange C.Inputs = true
-inRange (C.Outputs v) = ltb v 16777216
+-- ---- Which values have a line: those whose fields are in the ranges of "Lines" (crate line, `fits`)
 
 -- An identification is absent, or a character 0-9 or A-F.
 abbrev pub identFits : Ident → Bool
@@ -101,7 +77,7 @@ isAbsent (Given c) = false
 
 -- A W query has no identification.
 abbrev pub hasLine : Request → Bool
-hasLine r = inRange (r .command) && cond (isQuery (r .command)) (isAbsent (r .ident)) (identFits (r .ident))
+hasLine r = fits (r .command) && cond (isQuery (r .command)) (isAbsent (r .ident)) (identFits (r .ident))
 
 -- ---- The line
 
@@ -111,7 +87,7 @@ switchOf silent = weight silent 4
 
 -- W, 0 or 4, 0D.
 abbrev pub queryOf : Bool → List ℕ
-queryOf silent = 87 ∷ capitalOf (switchOf silent) ∷ 13 ∷ []
+queryOf silent = letterW ∷ capitalOf (switchOf silent) ∷ 13 ∷ []
 
 -- Letter, 0 or 4, six digits, the identification if given, 0D.
 abbrev pub fullOf : Bool → ℕ → ℕ → Ident → List ℕ
@@ -150,8 +126,3 @@ bufferOf r d =
     cond (ltb (length d) 10) d
     (cond (not (hasLine r)) d
     (over (lineOf r) d))
-
--- ---- What a command's line holds
-
-abbrev pub contentOf : Command → Content
-contentOf c = cond (inRange c) (cond (isQuery c) Query (Digits (letterOf c) (digitsOf c))) Nothing

@@ -17,11 +17,10 @@ ghost use Rattle.host.specs.Writer.{
   bufferOf,
 };
 ghost use Rattle.host.specs.RoundTrip.{LineTrip, LineBack};
-use crate::content::Content;
 use block::Block;
-use digits::Digit;
 use digits::Ident;
-use line::Command;
+use line::command;
+use line::command::Command;
 
 mod content;
 
@@ -51,19 +50,12 @@ pub fn is_ident(ident: Ident) -> bool
 {
     match ident {
         Ident::Absent => true,
-        Ident::Given(c) => {
-            let d = digits::read_digit(c);
-            match d {
-                Digit::Other => false,
-                Digit::Capital(_) => true,
-                Digit::Small(_) => false,
-            }
-        }
+        Ident::Given(c) => line::is_ident(c),
     }
 }
 
 // Whether there is none.
-fn is_absent(ident: Ident) -> bool
+pub fn is_absent(ident: Ident) -> bool
     ensures { λ r. ⌜ r ≡ isAbsent ident ⌝ }
 {
     match ident {
@@ -106,29 +98,27 @@ pub fn write_line(buf: &mut [u8], request: Request) -> Written
     }
     let command = request.command;
     let ident = request.ident;
-    let content = content::content_of(command);
-    match content {
-        Content::Nothing => Written::Refused(19),
-        Content::Query => {
-            if !is_absent(ident) {
-                return Written::Refused(19);
-            }
-            write_query(buf, request.silent);
-            Written::Length(3)
-        }
-        Content::Digits { letter, number } => {
-            if !is_ident(ident) {
-                return Written::Refused(19);
-            }
-            let block = Block {
-                letter,
-                switch: switch(request.silent),
-                number,
-                ident,
-            };
-            Written::Length(block::write_block(buf, 0, block))
-        }
+    if !command::fits(command) {
+        return Written::Refused(19);
     }
+    if content::is_query(command) {
+        if !is_absent(ident) {
+            return Written::Refused(19);
+        }
+        write_query(buf, request.silent);
+        return Written::Length(3);
+    }
+    if !is_ident(ident) {
+        return Written::Refused(19);
+    }
+    let content = content::content_of(command);
+    let block = Block {
+        letter: content.letter,
+        switch: switch(request.silent),
+        number: content.number,
+        ident,
+    };
+    Written::Length(block::write_block(buf, 0, block))
 }
 
 // Whether no axis is longer than this length.

@@ -65,7 +65,7 @@ fn is_switch(c: u8) -> bool
 }
 
 // Whether a character is an identification: a small letter is none.
-fn is_ident(c: u8) -> bool
+pub fn is_ident(c: u8) -> bool
     ensures { λ r. ⌜ r ≡ isIdent (digitOf c) ⌝ }
 {
     let d = digits::read_digit(c);

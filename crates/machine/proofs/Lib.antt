@@ -1,4 +1,5 @@
 pub mod BitLaws
+pub mod UnalteredLaws
 pub mod ShareLaws
 pub mod RunLaws
 pub mod PositionLaws

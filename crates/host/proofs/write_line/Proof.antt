@@ -1,7 +1,8 @@
--- The writer, by what the line of the command holds; what it promises of every line is in LineTrips. Assumes nothing.
+-- The writer's tests in order; what it promises of every line is in LineTrips. Assumes nothing.
 use borrow.Author.Needs.{needs}
 use native.Mathlib.Omega.{arith}
 use mathlib.Core.Path.{sym, _∙_}
+use borrow.Author.Tests.{not-true, not-false}
 use denote.Ref.{now}
 use Rattle.host.proofs.Writes.{
   too-short,
@@ -20,67 +21,73 @@ returns c =
     let a = c .before .before .args in
     promised (too-short (a .request) (now (a .buf)) (omega arith))
 
-content-of-requires : tie.Need-content-of-requires
-content-of-requires c κs = search needs
+fits-requires : tie.Need-fits-requires
+fits-requires c κs = search needs
 
-enum-told : tie.Need-enum-told
-enum-told c = search needs
+returns-2 : tie.Need-returns-2
+returns-2 c =
+    let a = c .before .before .before .before .args in
+    promised (out-of-range (a .request) (now (a .buf)) (omega arith)
+    (sym (c .before .fits2 .ensures) ∙ not-true _ (c .if2 .taken)))
 
-enum-told-2 : tie.Need-enum-told-2
-enum-told-2 c = search needs
+is-query-requires : tie.Need-is-query-requires
+is-query-requires c κs = search needs
 
 is-absent-requires : tie.Need-is-absent-requires
 is-absent-requires c κs = search needs
 
-returns-2 : tie.Need-returns-2
-returns-2 c =
-    let k = c .before .before .before .before in
-    let a = k .before .before .before .args in
+returns-3 : tie.Need-returns-3
+returns-3 c =
+    let k = c .before .before in
+    let f = k .before .before in
+    let a = f .before .before .before .before .args in
     promised (query-named (a .request) (now (a .buf)) (omega arith)
-    (sym (c .before .before .enum-told2 .given .1) ∙ k .content-of .ensures)
-    (c .before .is-absent .ensures) (c .if2 .taken))
+    (sym (f .before .fits2 .ensures) ∙ not-false _ (f .if2 .left))
+    (sym (k .before .is-query .ensures) ∙ k .if3 .taken)
+    (sym (c .before .is-absent .ensures) ∙ not-true _ (c .if4 .taken)))
 
 write-query-requires : tie.Need-write-query-requires
 write-query-requires c κs = search needs
 
-enum-known-content : tie.Need-enum-known-content
-enum-known-content c = search needs
+same-length : tie.Need-same-length
+same-length c = search needs
+
+returns-4 : tie.Need-returns-4
+returns-4 c =
+    let w = c .before .before in
+    let i = w .before .before in
+    let k = i .before .before in
+    let f = k .before .before in
+    let a = f .before .before .before .before .args in
+    promised (query-written (a .request) (now (a .buf)) (omega arith)
+    (sym (f .before .fits2 .ensures) ∙ not-false _ (f .if2 .left))
+    (sym (k .before .is-query .ensures) ∙ k .if3 .taken)
+    (sym (i .before .is-absent .ensures) ∙ not-false _ (i .if4 .left))
+    (w .write-query .ensures))
 
 is-ident-requires : tie.Need-is-ident-requires
 is-ident-requires c κs = search needs
 
-returns-3 : tie.Need-returns-3
-returns-3 c =
-    let o = c .before .before .before .content .given in
-    let k = c .before .before .before .before .before in
-    let a = k .before .before .before .args in
-    promised (full-named (a .request) (now (a .buf)) (omega arith) (o .0 .0) (o .0 .1 .0)
-    (sym (o .1) ∙ k .content-of .ensures) (c .before .is-ident .ensures) (c .if3 .taken))
+returns-5 : tie.Need-returns-5
+returns-5 c =
+    let k = c .before .before in
+    let f = k .before .before in
+    let a = f .before .before .before .before .args in
+    promised (full-named (a .request) (now (a .buf)) (omega arith)
+    (sym (f .before .fits2 .ensures) ∙ not-false _ (f .if2 .left))
+    (sym (k .before .is-query .ensures) ∙ k .if3 .left)
+    (sym (c .before .is-ident .ensures) ∙ not-true _ (c .if5 .taken)))
+
+content-of-requires : tie.Need-content-of-requires
+content-of-requires c κs =
+    let f = c .before .before .before .before in
+    sym (f .before .fits2 .ensures) ∙ not-false _ (f .if2 .left)
 
 switch-requires : tie.Need-switch-requires
 switch-requires c κs = search needs
 
 write-block-requires : tie.Need-write-block-requires
 write-block-requires c κs = search needs
-
-returns-4 : tie.Need-returns-4
-returns-4 c =
-    let a = c .before .before .before .before .before .args in
-    promised (out-of-range (a .request) (now (a .buf)) (omega arith)
-    (sym (c .enum-told .given .1) ∙ c .before .before .content-of .ensures))
-
-same-length : tie.Need-same-length
-same-length c = search needs
-
-returns-5 : tie.Need-returns-5
-returns-5 c =
-    let w = c .before .before in
-    let i = w .before .before in
-    let k = i .before .before .before .before in
-    let a = k .before .before .before .args in
-    promised (query-written (a .request) (now (a .buf)) (omega arith)
-    (sym (i .before .before .enum-told2 .given .1) ∙ k .content-of .ensures)
-    (i .before .is-absent .ensures) (i .if2 .left) (w .write-query .ensures))
 
 same-length-2 : tie.Need-same-length-2
 same-length-2 c = search needs
@@ -89,32 +96,34 @@ returns-6 : tie.Need-returns-6
 returns-6 c =
     let w = c .before .before in
     let s = w .before .before in
-    let i = s .before in
-    let o = i .before .before .before .content .given in
-    let k = i .before .before .before .before .before in
-    let a = k .before .before .before .args in
-    promised (full-written (a .request) (now (a .buf)) (omega arith) (o .0 .0) (o .0 .1 .0) (s .switch .result)
-    (sym (o .1) ∙ k .content-of .ensures) (i .before .is-ident .ensures) (i .if3 .left)
-    (s .switch .ensures) (w .write-block .ensures .0) (w .write-block .ensures .1))
+    let i = s .before .before in
+    let k = i .before .before in
+    let f = k .before .before in
+    let a = f .before .before .before .before .args in
+    promised (full-written (a .request) (now (a .buf)) (omega arith)
+    (sym (f .before .fits2 .ensures) ∙ not-false _ (f .if2 .left))
+    (s .before .content-of .result) (s .switch .result)
+    (sym (k .before .is-query .ensures) ∙ k .if3 .left)
+    (sym (i .before .is-ident .ensures) ∙ not-false _ (i .if5 .left))
+    (s .before .content-of .ensures) (s .switch .ensures) (w .write-block .ensures .0) (w .write-block .ensures .1))
 
 pub write-line-spec : {M : Type 1} → statement M
 write-line-spec =
     tie.close
     (tie.spec
     returns
-    content-of-requires
-    enum-told
-    enum-told-2
-    is-absent-requires
+    fits-requires
     returns-2
-    write-query-requires
-    enum-known-content
-    is-ident-requires
+    is-query-requires
+    is-absent-requires
     returns-3
+    write-query-requires
+    same-length
+    returns-4
+    is-ident-requires
+    returns-5
+    content-of-requires
     switch-requires
     write-block-requires
-    returns-4
-    same-length
-    returns-5
     same-length-2
     returns-6)
