@@ -11,7 +11,7 @@ use Rattle.laws.proofs.Pick.{by-lt, by-bool}
 use Rattle.digits.specs.Digits.{fourDigits, fiveDigits, sixDigits, digitOf, capitalOf, sixOf, numberOf}
 use Rattle.digits.specs.declared.Ident.{Ident}
 use Rattle.digits.specs.declared.Ident.the-variants.{Absent, Given}
-use Rattle.digits.proofs.Laws.{six-number}
+use Rattle.digits.proofs.Six.{six-number}
 use Rattle.block.specs.Block.{blockOf}
 use Rattle.line.specs.declared.command.Reading.the-variants as R
 use Rattle.line.specs.declared.command.Command.{Command}
