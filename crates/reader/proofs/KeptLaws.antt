@@ -2,20 +2,17 @@
 -- Assumes nothing.
 use Prim.Native.Nat.{ℕ, _+_, _-_, _<_}
 use native.Mathlib.Omega.{arith}
-use mathlib.Core.Bool.{not, _&&_}
+use mathlib.Core.Bool.{Bool, true, false, not, _&&_, _||_, false≢true}
 use mathlib.Core.List.{List, [], _∷_}
 use mathlib.Core.Path.{_≡_, refl, sym, subst, _∙_}
 use borrow.Author.Tests.{ltb-false, eqb-false}
 use lib.Dec.{ltb, leb, eqb}
 use Rattle.laws.proofs.Pick.{by-bool}
-use Rattle.laws.proofs.Tests.{neither}
-use Rattle.line.specs.declared.Command.{Command}
-use Rattle.line.specs.declared.Command.the-variants as C
+use Rattle.digits.specs.Digits.{sixDigits}
 use Rattle.machine.specs.State.{Machine}
 use Rattle.machine.specs.Shares.{whole, gone}
 use Rattle.machine.specs.Ramp.{Ran, full, ramped, pulsed, advanced, runs}
 use Rattle.machine.specs.Stops.{takes, cause, stops}
-use Rattle.machine.specs.Commands.{does, stores}
 use Rattle.machine.specs.Steps.{
   powerOn,
   badSwitch,
@@ -39,6 +36,7 @@ use Rattle.machine.specs.Steps.{
   tickStep,
 }
 use Rattle.machine.specs.Calls.{Call, byte, tick, after, run, state}
+use Rattle.machine.proofs.UnalteredLaws.{does-unaltered, turned-unaltered}
 
 -- One digit, and not C.
 pub record SwitchFits (switch : ℕ) : Type 0 where
@@ -47,7 +45,7 @@ pub record SwitchFits (switch : ℕ) : Type 0 where
 
 pub record Kept (m : Machine) : Type 0 where
   pub switch : SwitchFits (m .switch)
-  pub inputs : m .inputs < 16777216
+  pub inputs : m .inputs < sixDigits
 
 -- The same switch and inputs.
 record Same (m a : Machine) : Type 0 where
@@ -57,15 +55,19 @@ record Same (m a : Machine) : Type 0 where
 kept-same : (m a : Machine) → Kept m → Same m a → Kept a
 kept-same m a k s = record {
   switch = subst SwitchFits (sym (s .switch)) (k .switch);
-  inputs = subst (λ (w : ℕ). w < 16777216) (sym (s .inputs)) (k .inputs);
+  inputs = subst (λ (w : ℕ). w < sixDigits) (sym (s .inputs)) (k .inputs);
 }
 
 -- ---- power-on
 
+either-false : (a b : Bool) → (a || b) ≡ false → (a ≡ false) × (b ≡ false)
+either-false true b e = absurd (false≢true (sym e))
+either-false false b e = (refl, e)
+
 kept-power : (s : ℕ) → Kept (powerOn s)
 kept-power s = record {
   switch = by-bool SwitchFits (badSwitch s) 0 s (λ _. record { low = omega arith; other = λ e. omega arith })
-      (λ q. let t = neither (ltb 15 s) (eqb s 12) q in
+      (λ q. let t = either-false (ltb 15 s) (eqb s 12) q in
       let l = ltb-false 15 s (t .0) in
       record { low = omega arith; other = eqb-false s 12 (t .1) });
   inputs = omega arith;
@@ -73,41 +75,15 @@ kept-power s = record {
 
 -- ---- bytes
 
-same-does : (m : Machine) (b : ℕ) (c : Command) → Same m (does (heardBy m b) c)
-same-does m b (C.Distance k s d) = record { switch = refl; inputs = refl }
-same-does m b (C.Speed v) = record { switch = refl; inputs = refl }
-same-does m b (C.Slope v) = record { switch = refl; inputs = refl }
-same-does m b (C.Dwell v) = record { switch = refl; inputs = refl }
-same-does m b (C.Watch v) = record { switch = refl; inputs = refl }
-same-does m b (C.Polarity v) = record { switch = refl; inputs = refl }
-same-does m b (C.Travel k) = record { switch = refl; inputs = refl }
-same-does m b C.Status = record { switch = refl; inputs = refl }
-same-does m b (C.Start k w) =
-    by-bool (Same m) (stores m w) _ _ (λ _. record { switch = refl; inputs = refl })
-    (λ _. record { switch = refl; inputs = refl })
-same-does m b C.Stop =
-    record {
-      switch = by-bool (λ (a : Machine). a .switch ≡ m .switch) (m .move .moving) _ _ (λ _. refl) (λ _. refl);
-      inputs = by-bool (λ (a : Machine). a .inputs ≡ m .inputs) (m .move .moving) _ _ (λ _. refl) (λ _. refl);
-    }
-same-does m b C.ClearWrongMaster = record { switch = refl; inputs = refl }
-same-does m b C.ResetPositions = record { switch = refl; inputs = refl }
-same-does m b (C.LowOn v) = record { switch = refl; inputs = refl }
-same-does m b (C.HighOn v) = record { switch = refl; inputs = refl }
-same-does m b (C.Position k) = record { switch = refl; inputs = refl }
-same-does m b C.Everything = record { switch = refl; inputs = refl }
-same-does m b C.Inputs = record { switch = refl; inputs = refl }
-same-does m b (C.Outputs v) = record { switch = refl; inputs = refl }
-
 same-answered : (m : Machine) (b : ℕ) (o : Outcome) → Same m (answered m b o .machine)
 same-answered m b untaken = record { switch = refl; inputs = refl }
 same-answered m b gathered = record { switch = refl; inputs = refl }
 same-answered m b (refused n silent ident) =
-    by-bool (Same m) (leb 10 n) _ _ (λ _. record { switch = refl; inputs = refl })
-    (λ _. record { switch = refl; inputs = refl })
+    let u = turned-unaltered (heardBy m b) n in
+    record { switch = u .switch; inputs = u .inputs }
 same-answered m b (accepted c digits silent ident) =
-    let s = same-does m b c in
-    record { switch = s .switch; inputs = s .inputs }
+    let u = does-unaltered (heardBy m b) c in
+    record { switch = u .switch; inputs = u .inputs }
 
 -- ---- ticks
 
@@ -142,7 +118,7 @@ same-runs m =
     _ _ (λ _. record { switch = refl; inputs = refl })
     (λ _. same-advanced m (ramped (m .settings) (m .move)) (m .move .phase + ramped (m .settings) (m .move))))
 
-kept-takes : (m : Machine) (w : ℕ) → Kept m → w < 16777216 → Kept (takes m w)
+kept-takes : (m : Machine) (w : ℕ) → Kept m → w < sixDigits → Kept (takes m w)
 kept-takes m w k h = record { switch = k .switch; inputs = h }
 
 kept-tick : (m : Machine) (w : ℕ) → Kept m → Kept (tickStep m w .machine)

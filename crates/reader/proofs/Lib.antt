@@ -1,8 +1,13 @@
 pub mod ReadLaws
+pub mod VerdictLaws
+pub mod EchoLaws
 pub mod BlockLaws
 pub mod LineLaws
 pub mod KeptLaws
+pub mod NumberLaws
+pub mod ReplyLaws
 pub mod ReadBack
+pub mod FieldLaws
 pub mod OnlyBlocks
 pub mod Promises
 pub mod Examples

@@ -5,72 +5,65 @@ use native.Mathlib.Omega.{arith}
 use mathlib.Core.Bool.{true}
 use mathlib.Core.List.{List}
 use mathlib.Core.Path.{_≡_, refl, sym, _∙_}
-use Rattle.laws.proofs.Pick.{by-lt, by-eq}
+use Rattle.laws.proofs.Pick.{by-lt}
 use Rattle.digits.specs.Digits.{numberOf}
 use Rattle.digits.specs.declared.Ident.{Ident}
 use Rattle.digits.specs.declared.Ident.the-variants.{Absent}
-use Rattle.line.specs.declared.Command.{Command}
-use Rattle.line.specs.declared.Command.the-variants as C
+use Rattle.line.specs.declared.command.Command.{Command}
+use Rattle.line.specs.declared.command.Command.the-variants as C
 use Rattle.line.specs.declared.Judged.{Judged}
 use Rattle.line.specs.declared.Judged.the-variants.{Accepted, Refused}
-use Rattle.line.specs.Line.{charAt, valueOf, identOf, digitCount, digitChars, code, formOf, judgeOf}
-use Rattle.line.specs.Fits.{OrderFits, JudgedFits}
+use Rattle.line.specs.Codes.{code, rowOf}
+use Rattle.line.specs.Line.{charAt, valueOf, identOf, digitCount, digitChars, judgeOf}
+use Rattle.line.specs.Fits.{CommandFits, OrderFits, JudgedFits}
 use Rattle.line.proofs.Fits.{judge-fits}
-use Rattle.line.proofs.Cases.{by-form, by-judge}
+use Rattle.line.proofs.Ranges.{by-order, by-setting}
+use Rattle.line.proofs.Cases.{by-row, by-judge}
 use Rattle.reply.specs.Reply.{refusalIdent}
 use Rattle.host.specs.Writer.{identFits}
 use Rattle.host.proofs.JudgeLaws.{ident-fits}
 use Rattle.reader.specs.Reader.{isEcho}
-use Rattle.reader.proofs.BlockLaws.{EchoFits}
+use Rattle.reader.proofs.EchoLaws.{EchoFits}
 
 always : 0 < 1
 always = omega arith
 
 -- ---- an order's digits
 
--- The digits of a command that is echoed.
+-- The digits of a command that is echoed: an order, or a setting of the inputs.
 abbrev pub Echoed : Command → ℕ → Type 0
 Echoed (C.Distance k minus d) n = 0 < 1
-Echoed (C.Speed v) n = 0 < 1
-Echoed (C.Slope v) n = 0 < 1
-Echoed (C.Dwell v) n = 0 < 1
-Echoed (C.Watch v) n = 0 < 1
-Echoed (C.Polarity v) n = 0 < 1
-Echoed (C.Travel k) n = 0 < 1
-Echoed C.Status n = 0 < 1
+Echoed (C.Set k v) n = 13 ≤ k → EchoFits n
 Echoed (C.Start k waits) n = EchoFits n
-Echoed C.Stop n = EchoFits n
-Echoed C.ClearWrongMaster n = EchoFits n
-Echoed C.ResetPositions n = EchoFits n
-Echoed (C.LowOn v) n = EchoFits n
-Echoed (C.HighOn v) n = EchoFits n
-Echoed (C.Position k) n = 0 < 1
-Echoed C.Everything n = 0 < 1
-Echoed C.Inputs n = 0 < 1
+Echoed (C.Order k) n = EchoFits n
 Echoed (C.Outputs v) n = 0 < 1
+Echoed (C.Read r) n = 0 < 1
 
 echo-of : (n k : ℕ) → code n ≡ k → 5 ≤ k → (k ≡ 6 → ⊥) → isEcho n ≡ true → EchoFits n
 echo-of n k e h other t = record { axes = omega arith; six = λ q. other (sym e ∙ q); echo = t }
 
-echoed : (c : Command) (n : ℕ) → OrderFits c n → Echoed c n
-echoed (C.Distance k minus d) n f = always
-echoed (C.Speed v) n f = always
-echoed (C.Slope v) n f = always
-echoed (C.Dwell v) n f = always
-echoed (C.Watch v) n f = always
-echoed (C.Polarity v) n f = always
-echoed (C.Travel k) n f = always
-echoed C.Status n f = always
-echoed (C.Start k waits) n f = echo-of n 8 (f .0) (omega arith) (λ e. omega arith) (rw (f .0) (f .1))
-echoed C.Stop n f = echo-of n 9 f (omega arith) (λ e. omega arith) (rw f)
-echoed C.ClearWrongMaster n f = echo-of n 10 f (omega arith) (λ e. omega arith) (rw f)
-echoed C.ResetPositions n f = echo-of n 11 f (omega arith) (λ e. omega arith) (rw f)
-echoed (C.LowOn v) n f = echo-of n 13 (f .0) (omega arith) (λ e. omega arith) (rw (f .0) (f .1))
-echoed (C.HighOn v) n f = echo-of n 14 (f .0) (omega arith) (λ e. omega arith) (rw (f .0) (f .1))
-echoed (C.Position k) n f = always
-echoed C.Everything n f = always
-echoed C.Inputs n f = always
-echoed (C.Outputs v) n f = always
+setting-echoed : (k v n : ℕ) → CommandFits (C.Set k v) → OrderFits (C.Set k v) n → Echoed (C.Set k v) n
+setting-echoed k v n =
+    by-setting (λ (c w : ℕ). OrderFits (C.Set c w) n → Echoed (C.Set c w) n) k v
+    (λ _ _ f h. absurd (omega arith)) (λ _ _ f h. absurd (omega arith)) (λ _ f h. absurd (omega arith))
+    (λ _ f h. absurd (omega arith)) (λ _ f h. absurd (omega arith))
+    (λ bits f h. let t = f h in echo-of n 13 (t .0) (omega arith) (λ e. omega arith) (rw (t .0, t .1) bits))
+    (λ bits f h. let t = f h in echo-of n 14 (t .0) (omega arith) (λ e. omega arith) (rw (t .0, t .1) bits))
+
+order-echoed : (k n : ℕ) → CommandFits (C.Order k) → code n ≡ k → EchoFits n
+order-echoed k n =
+    by-order (λ (c : ℕ). code n ≡ c → EchoFits n)
+    (λ e. echo-of n 9 e (omega arith) (λ q. omega arith) (rw e))
+    (λ e. echo-of n 10 e (omega arith) (λ q. omega arith) (rw e))
+    (λ e. echo-of n 11 e (omega arith) (λ q. omega arith) (rw e)) k
+
+echoed : (c : Command) (n : ℕ) → CommandFits c → OrderFits c n → Echoed c n
+echoed (C.Distance k minus d) n h f = always
+echoed (C.Set k v) n h f = setting-echoed k v n h f
+echoed (C.Start k waits) n h f = echo-of n 8 (f .0) (omega arith) (λ e. omega arith) (rw (f .0, f .1) h)
+echoed (C.Order k) n h f = order-echoed k n h f
+echoed (C.Outputs v) n h f = always
+echoed (C.Read r) n h f = always
 
 -- ---- the line
 
@@ -100,11 +93,11 @@ named cs =
     let n = valueOf (numberOf (digitChars cs)) in
     by-judge (Named ident) cs refl refl refl refl
     (λ e. let f = ident-fits cs e in
-    by-form (Named ident) (formOf (charAt cs 0) count (code n)) count n (named-late ident 8 f) (named-late ident 9 f)
-    (named-late ident 10 f) (λ _. f))
+    by-row (Named ident) (rowOf (charAt cs 0) count n) count n (named-late ident 8 f) (named-late ident 9 f)
+    (named-late ident 10 f) (λ _ _ _ _. f))
 
 tells : (ident : Ident) (j : Judged) → JudgedFits j → Named ident j → Tells ident j
-tells ident (Accepted c n) f e = record { named = e; digits = echoed c n (f .order) }
+tells ident (Accepted c n) f e = record { named = e; digits = echoed c n (f .command) (f .order) }
 tells ident (Refused n) f e = e
 
 -- Every line's judgement.

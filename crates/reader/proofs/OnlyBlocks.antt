@@ -1,15 +1,14 @@
 -- What the reader takes is exactly the blocks: each block is read as the figures that it says, and whatever is read is
 -- a block that says just this. All else is 20. Assumes nothing.
-use Prim.Native.Nat.{ℕ, _+_, _-_, _%_, _<_}
+use Prim.Native.Nat.{ℕ, _<_}
 use native.Mathlib.Omega.{arith}
 use mathlib.Core.Bool.{Bool, true, false, not}
 use mathlib.Core.List.{List, [], _∷_, _++_}
 use mathlib.Core.Path.{_≡_, refl, sym, ap, subst, _∙_}
 use borrow.Author.Tests.{eqb-true, eqb-false, not-true}
-use lib.Dec.{leb, eqb}
-use lib.IntN.{ℤ, pos, negsuc}
-use Rattle.laws.proofs.Pick.{by-bool, by-lt, by-le, by-eq}
-use Rattle.digits.specs.Digits.{digitOf, capitalOf, numberOf, Under}
+use lib.Dec.{eqb}
+use Rattle.laws.proofs.Pick.{by-bool, by-eq}
+use Rattle.digits.specs.Digits.{sixDigits, digitOf, capitalOf, numberOf, Under}
 use Rattle.digits.specs.declared.Digit.{Digit}
 use Rattle.digits.specs.declared.Digit.the-variants.{Other, Capital, Small}
 use Rattle.digits.specs.declared.Number.{Number}
@@ -19,8 +18,7 @@ use Rattle.digits.specs.declared.Ident.the-variants.{Absent, Given}
 use Rattle.digits.proofs.Laws.{Tells, digit-tells}
 use Rattle.digits.proofs.Six.{number-six, under-six}
 use Rattle.block.specs.Block.{identChars, blockOf}
-use Rattle.line.specs.Line.{code, five, isIdent}
-use Rattle.reply.specs.Reply.{coded, blockFor, travelDigits, twenty}
+use Rattle.line.specs.Line.{isIdent}
 use Rattle.host.specs.Writer.{identFits}
 use Rattle.reader.specs.Reader.{
   Figures,
@@ -31,23 +29,14 @@ use Rattle.reader.specs.Reader.{
   echo,
   placed,
   inputs,
-  isVerdict,
-  isEcho,
-  verdictIn,
-  orderIn,
-  placeIn,
-  signed,
-  fieldsIn,
   digitsIn,
   switchIn,
   readOf,
 }
 use Rattle.reader.specs.Blocks.{Framed, VerdictFits, InRange, spelling, Says, Spelt, BlocksRead}
 use Rattle.reader.proofs.ReadLaws.{too-long}
+use Rattle.reader.proofs.EchoLaws.{echo-taken}
 use Rattle.reader.proofs.BlockLaws.{
-  verdict-fits,
-  echo-taken,
-  signed-inside,
   verdict-read,
   travel-read,
   status-read,
@@ -55,72 +44,7 @@ use Rattle.reader.proofs.BlockLaws.{
   place-read,
   inputs-read,
 }
-
--- ---- the fields
-
-number-low : (n : ℕ) (ident : Ident) → VerdictFits n ident → n < 16777216
-number-low n ident f =
-    by-bool (λ (x : Bool). n < 16777216) (eqb n 0) true false (λ e. let z = eqb-true n 0 e in omega arith)
-    (λ e. let h = f (eqb-false n 0 e) .high in omega arith)
-
-travel-digits : (n : ℕ) → coded (code n) (travelDigits (leb 524288 (five n)) (five n % 524288)) ≡ n
-travel-digits n =
-    by-le (λ (x : ℕ). coded (code n) (x + five n % 524288) ≡ n) 524288 (five n) 524288 0
-    (λ h. omega arith) (λ h. omega arith)
-
-twenty-signed : (v : ℕ) → v < 1048576 → twenty (signed v) ≡ v
-twenty-signed v h =
-    by-lt (λ (z : ℤ). twenty z ≡ v) v 524288 (pos v) (negsuc (1048575 - v)) (λ k. omega arith) (λ k. omega arith)
-
-module _ (switch n : ℕ) (ident : Ident) (s : List ℕ) (frame : Framed switch ident) (low : n < 16777216) where
-  verdict-spelt : blockFor switch 85 n ident ≡ s → Spelt s (verdictIn switch n ident)
-  verdict-spelt e =
-      by-bool (Spelt s) (isVerdict n ident) _ _
-      (λ t. record { fits = (frame, verdict-fits n ident t); bytes = e }) (λ _. refl)
-
-  order-spelt : blockFor switch 83 n ident ≡ s → Spelt s (orderIn switch n ident)
-  order-spelt e =
-      by-lt (Spelt s) (code n) 5 _ _
-      (λ k. record {
-        fits = (frame, (k, omega arith));
-        bytes = ap (λ (x : ℕ). blockFor switch 83 x ident) (travel-digits n) ∙ e;
-      })
-      λ h. by-eq (Spelt s) (code n) 6 _ _
-      (λ q. by-lt (Spelt s) (five n) 128 _ _
-      (λ k. record { fits = (frame, k); bytes = ap (λ (x : ℕ). blockFor switch 83 x ident) (six q) ∙ e }) (λ _. refl))
-      (λ q. by-bool (Spelt s) (isEcho n) _ _
-      (λ t. record {
-        fits = (frame, record { six = low; noTravel = h; noStatus = q; taken = echo-taken n h q ∙ t });
-        bytes = e;
-      })
-      (λ _. refl))
-    where
-      six : code n ≡ 6 → coded 6 (five n) ≡ n
-      six q = omega arith
-
-  place-spelt : blockFor switch 115 n ident ≡ s → Spelt s (placeIn switch n ident)
-  place-spelt e =
-      by-lt (Spelt s) (code n) 5 _ _
-      (λ k. record {
-        fits = (frame, (k, signed-inside (five n) (omega arith)));
-        bytes = ap (λ (x : ℕ). blockFor switch 115 x ident) (ap (coded (code n)) (twenty-signed (five n) (omega arith))
-            ∙ whole) ∙ e;
-      })
-      (λ _. refl)
-    where
-      whole : coded (code n) (five n) ≡ n
-      whole = omega arith
-
-  fields-spelt : (letter : ℕ) → blockFor switch letter n ident ≡ s → Spelt s (fieldsIn letter switch n ident)
-  unfolding fieldsIn
-  fields-spelt letter e =
-      by-eq (Spelt s) letter 85 _ _ (λ q. verdict-spelt (named q))
-      λ _. by-eq (Spelt s) letter 83 _ _ (λ q. order-spelt (named q))
-      λ _. by-eq (Spelt s) letter 115 _ _ (λ q. place-spelt (named q))
-      λ _. by-eq (Spelt s) letter 82 _ _ (λ q. record { fits = (frame, low); bytes = named q }) (λ _. refl)
-    where
-      named : {l : ℕ} → letter ≡ l → blockFor switch l n ident ≡ s
-      named q = subst (λ (x : ℕ). blockFor switch x n ident ≡ s) q e
+use Rattle.reader.proofs.FieldLaws.{fields-spelt}
 
 -- ---- the bytes
 
@@ -136,7 +60,7 @@ module _ (a b c1 c2 c3 c4 c5 c6 : ℕ) (ident : Ident) (named : identFits ident 
   digits-spelt v f p NotDigits e = refl
   digits-spelt v f p (Value n true) e = refl
   digits-spelt v f p (Value n false) e =
-      fields-spelt v n ident bytes f (subst (Under 16777216) e (under-six c1 c2 c3 c4 c5 c6)) a
+      fields-spelt v n ident bytes f (subst (Under sixDigits) e (under-six c1 c2 c3 c4 c5 c6)) a
       (λ i. a ∷ p i ∷ (number-six c1 c2 c3 c4 c5 c6 n e i ++ (identChars ident ++ (13 ∷ []))))
 
   switch-spelt : (d : Digit) → Tells b d
@@ -180,6 +104,11 @@ only-blocks (a ∷ b ∷ c1 ∷ c2 ∷ c3 ∷ c4 ∷ c5 ∷ c6 ∷ y ∷ z ∷ x
     (too-long (a ∷ b ∷ c1 ∷ c2 ∷ c3 ∷ c4 ∷ c5 ∷ c6 ∷ y ∷ z ∷ x ∷ l) (omega arith)) refl
 
 -- ---- every block, and nothing else
+
+number-low : (n : ℕ) (ident : Ident) → VerdictFits n ident → n < sixDigits
+number-low n ident f =
+    by-bool (λ (x : Bool). n < sixDigits) (eqb n 0) true false (λ e. let z = eqb-true n 0 e in omega arith)
+    (λ e. let h = f (eqb-false n 0 e) .high in omega arith)
 
 block-is : (f : Figures) → InRange f → readOf (spelling f) ≡ f
 block-is (refused n) h = absurd h

@@ -8,7 +8,7 @@ use borrow.Author.Tests.{le-leb, lt-leb, eq-eqb, ne-eqb, not-true, not-false}
 use lib.IntN.{ℤ, pos, negsuc, _+ℤ_}
 use lib.ListN.{length, getD}
 use Rattle.laws.proofs.Pick.{by-lt}
-use Rattle.digits.specs.Digits.{digitOf, numberOf}
+use Rattle.digits.specs.Digits.{fiveDigits, topBit, digitOf, numberOf}
 use Rattle.digits.specs.declared.Digit.{Digit}
 use Rattle.digits.specs.declared.Number.{Number}
 use Rattle.digits.specs.declared.Ident.{Ident}
@@ -26,21 +26,21 @@ passed {b} e h p = rw (← e, not-false b h) p
 -- ---- numbers
 
 -- Five digits, held with 524,288 added, are the position that they are in two's complement.
-pub held-signed : (v : ℕ) → v < 1048576 → pos ((v + 524288) % 1048576) +ℤ negsuc 524287 ≡ signed v
+pub held-signed : (v : ℕ) → v < fiveDigits → pos ((v + topBit) % fiveDigits) +ℤ negsuc 524287 ≡ signed v
 held-signed v h =
-    by-lt (λ (z : ℤ). pos ((v + 524288) % 1048576) +ℤ negsuc 524287 ≡ z) v 524288 (pos v) (negsuc (1048575 - v))
+    by-lt (λ (z : ℤ). pos ((v + topBit) % fiveDigits) +ℤ negsuc 524287 ≡ z) v topBit (pos v) (negsuc (1048575 - v))
     low high
   where
-    low : v < 524288 → pos ((v + 524288) % 1048576) +ℤ negsuc 524287 ≡ pos v
+    low : v < topBit → pos ((v + topBit) % fiveDigits) +ℤ negsuc 524287 ≡ pos v
     low k =
-        by-lt (λ (z : ℤ). z ≡ pos v) ((v + 524288) % 1048576) 524288
-        (negsuc (524288 - suc ((v + 524288) % 1048576))) (pos ((v + 524288) % 1048576 - 524288))
+        by-lt (λ (z : ℤ). z ≡ pos v) ((v + topBit) % fiveDigits) topBit
+        (negsuc (topBit - suc ((v + topBit) % fiveDigits))) (pos ((v + topBit) % fiveDigits - topBit))
         (λ q. absurd (omega arith)) (λ q. ap pos (omega arith))
 
-    high : 524288 ≤ v → pos ((v + 524288) % 1048576) +ℤ negsuc 524287 ≡ negsuc (1048575 - v)
+    high : topBit ≤ v → pos ((v + topBit) % fiveDigits) +ℤ negsuc 524287 ≡ negsuc (1048575 - v)
     high k =
-        by-lt (λ (z : ℤ). z ≡ negsuc (1048575 - v)) ((v + 524288) % 1048576) 524288
-        (negsuc (524288 - suc ((v + 524288) % 1048576))) (pos ((v + 524288) % 1048576 - 524288))
+        by-lt (λ (z : ℤ). z ≡ negsuc (1048575 - v)) ((v + topBit) % fiveDigits) topBit
+        (negsuc (topBit - suc ((v + topBit) % fiveDigits))) (pos ((v + topBit) % fiveDigits - topBit))
         (λ q. ap negsuc (omega arith)) (λ q. absurd (omega arith))
 
 -- ---- the bytes

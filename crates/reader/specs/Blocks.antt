@@ -4,11 +4,23 @@ use Prim.Native.Nat.{ℕ, _≤_, _<_}
 use mathlib.Core.Bool.{Bool, true, false}
 use mathlib.Core.List.{List, []}
 use mathlib.Core.Path.{_≡_}
+use Rattle.digits.specs.Digits.{sixDigits, topBit}
 use Rattle.digits.specs.declared.Ident.{Ident}
 use Rattle.line.specs.declared.Judged.{Judged}
 use Rattle.line.specs.declared.Judged.the-variants.{Accepted, Refused}
-use Rattle.line.specs.Line.{code, judgeValue}
-use Rattle.reply.specs.Reply.{coded, blockFor, travelDigits, twenty, refusalIdent}
+use Rattle.line.specs.Codes.{letterQ, code}
+use Rattle.line.specs.Line.{judgeValue}
+use Rattle.reply.specs.Reply.{
+  coded,
+  letterU,
+  letterS,
+  letterSmallS,
+  letterR,
+  blockFor,
+  travelDigits,
+  twenty,
+  refusalIdent,
+}
 use Rattle.machine.specs.Starts.{outside}
 use Rattle.host.specs.Writer.{identFits}
 use Rattle.reader.specs.Reader.{
@@ -48,31 +60,31 @@ isAccepted (Refused n) = false
 
 -- Other Q echo: the six digits of a line Q that is accepted, and whose code is of no reading (0-4, 6).
 pub record Echoes (n : ℕ) : Type 0 where
-  pub six : n < 16777216
+  pub six : n < sixDigits
   pub noTravel : 5 ≤ code n
   pub noStatus : code n ≡ 6 → ⊥
-  pub taken : isAccepted (judgeValue 81 6 n) ≡ true
+  pub taken : isAccepted (judgeValue letterQ 6 n) ≡ true
 
 -- Status bits 0 to 6 are free; a position is -524,288 to 524,287; inputs are a 24-bit word. 20 is no block.
 abbrev pub InRange : Figures → Type 0
 InRange (refused n) = ⊥
 InRange (verdict switch n ident) = Framed switch ident × VerdictFits n ident
-InRange (travelled switch k minus t ident) = Framed switch ident × ((k < 5) × (t < 524288))
+InRange (travelled switch k minus t ident) = Framed switch ident × ((k < 5) × (t < topBit))
 InRange (status switch v ident) = Framed switch ident × (v < 128)
 InRange (echo switch n ident) = Framed switch ident × Echoes n
 InRange (placed switch k z ident) = Framed switch ident × ((k < 5) × (outside z ≡ false))
-InRange (inputs switch w ident) = Framed switch ident × (w < 16777216)
+InRange (inputs switch w ident) = Framed switch ident × (w < sixDigits)
 
 -- ---- The bytes of a block that says these figures
 
 abbrev pub spelling : Figures → List ℕ
 spelling (refused n) = []
-spelling (verdict switch n ident) = blockFor switch 85 n ident
-spelling (travelled switch k minus t ident) = blockFor switch 83 (coded k (travelDigits minus t)) ident
-spelling (status switch v ident) = blockFor switch 83 (coded 6 v) ident
-spelling (echo switch n ident) = blockFor switch 83 n ident
-spelling (placed switch k z ident) = blockFor switch 115 (coded k (twenty z)) ident
-spelling (inputs switch w ident) = blockFor switch 82 w ident
+spelling (verdict switch n ident) = blockFor switch letterU n ident
+spelling (travelled switch k minus t ident) = blockFor switch letterS (coded k (travelDigits minus t)) ident
+spelling (status switch v ident) = blockFor switch letterS (coded 6 v) ident
+spelling (echo switch n ident) = blockFor switch letterS n ident
+spelling (placed switch k z ident) = blockFor switch letterSmallS (coded k (twenty z)) ident
+spelling (inputs switch w ident) = blockFor switch letterR w ident
 
 -- The bytes s are a block that says f.
 pub record Says (s : List ℕ) (f : Figures) : Type 0 where

@@ -5,9 +5,12 @@ use Prim.Native.Nat.{ℕ}
 use mathlib.Core.Bool.{cond}
 use mathlib.Core.List.{List, [], _∷_, _++_, map}
 use mathlib.Core.Path.{_≡_}
+use lib.Dec.{ltb}
 use Rattle.digits.specs.declared.Ident.{Ident}
-use Rattle.line.specs.declared.Command.{Command}
-use Rattle.line.specs.declared.Command.the-variants as C
+use Rattle.line.specs.declared.command.Reading.{Reading}
+use Rattle.line.specs.declared.command.Reading.the-variants as R
+use Rattle.line.specs.declared.command.Command.{Command}
+use Rattle.line.specs.declared.command.Command.the-variants as C
 use Rattle.reply.specs.Reply.{refusalIdent}
 use Rattle.machine.specs.State.{Machine}
 use Rattle.machine.specs.Stops as Stops
@@ -29,31 +32,28 @@ statusIn m ident = status (m .switch) (Stops.status m) ident
 abbrev pub inputsIn : Machine → Ident → Figures
 inputsIn m ident = inputs (m .switch) (m .inputs) ident
 
--- What the reply to an accepted command with these six digits says. P: 0. Q: a reading, or the digits. q: a position,
--- or everything. W: the inputs.
-abbrev pub saidTo : Machine → Command → ℕ → Ident → List Figures
-saidTo m (C.Distance k minus d) digits ident = verdict (m .switch) 0 ident ∷ []
-saidTo m (C.Speed v) digits ident = verdict (m .switch) 0 ident ∷ []
-saidTo m (C.Slope v) digits ident = verdict (m .switch) 0 ident ∷ []
-saidTo m (C.Dwell v) digits ident = verdict (m .switch) 0 ident ∷ []
-saidTo m (C.Watch v) digits ident = verdict (m .switch) 0 ident ∷ []
-saidTo m (C.Polarity v) digits ident = verdict (m .switch) 0 ident ∷ []
-saidTo m (C.Travel k) digits ident = travelIn m ident k ∷ []
-saidTo m C.Status digits ident = statusIn m ident ∷ []
-saidTo m (C.Start k waits) digits ident = echo (m .switch) digits ident ∷ []
-saidTo m C.Stop digits ident = echo (m .switch) digits ident ∷ []
-saidTo m C.ClearWrongMaster digits ident = echo (m .switch) digits ident ∷ []
-saidTo m C.ResetPositions digits ident = echo (m .switch) digits ident ∷ []
-saidTo m (C.LowOn v) digits ident = echo (m .switch) digits ident ∷ []
-saidTo m (C.HighOn v) digits ident = echo (m .switch) digits ident ∷ []
-saidTo m (C.Position k) digits ident = positionIn m ident k ∷ []
-saidTo m C.Everything digits ident =
+-- What the reply to a reading says; q 8 reads everything.
+abbrev pub saidFor : Machine → Reading → Ident → List Figures
+saidFor m (R.Travel k) ident = travelIn m ident k ∷ []
+saidFor m (R.Position k) ident = positionIn m ident k ∷ []
+saidFor m R.Status ident = statusIn m ident ∷ []
+saidFor m R.Everything ident =
     travelIn m ident 0 ∷ travelIn m ident 1 ∷ travelIn m ident 2 ∷ travelIn m ident 3 ∷ travelIn m ident 4
     ∷ statusIn m ident
     ∷ positionIn m ident 0 ∷ positionIn m ident 1 ∷ positionIn m ident 2 ∷ positionIn m ident 3 ∷ positionIn m ident 4
     ∷ inputsIn m ident ∷ []
-saidTo m C.Inputs digits ident = inputsIn m ident ∷ []
+saidFor m R.Inputs ident = inputsIn m ident ∷ []
+
+-- What the reply to an accepted command with these six digits says. P: 0. Q: a reading, or the digits. q: a position,
+-- or everything. W: the inputs. Settings are P's up to C, those of the inputs Q's.
+abbrev pub saidTo : Machine → Command → ℕ → Ident → List Figures
+saidTo m (C.Distance k minus d) digits ident = verdict (m .switch) 0 ident ∷ []
+saidTo m (C.Set code v) digits ident =
+    cond (ltb code 13) (verdict (m .switch) 0 ident ∷ []) (echo (m .switch) digits ident ∷ [])
+saidTo m (C.Start k waits) digits ident = echo (m .switch) digits ident ∷ []
+saidTo m (C.Order code) digits ident = echo (m .switch) digits ident ∷ []
 saidTo m (C.Outputs v) digits ident = inputsIn m ident ∷ []
+saidTo m (C.Read r) digits ident = saidFor m r ident
 
 -- What the reply to a byte says: nothing where there is no reply; a line turned away, its number, with the
 -- identification from 8 on.

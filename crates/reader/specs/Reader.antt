@@ -1,23 +1,24 @@
 -- The host's reader of one reply block (paper 01, "Lines", Replies; "Turned away" 20): what the bytes say, or 20 where
 -- they are not a block of the forms under Replies with each field in its range.
 use Prim.Native.Nat.{ℕ, _-_, _%_}
-use mathlib.Core.Bool.{Bool, true, false, cond, not, _&&_, _||_}
+use mathlib.Core.Bool.{Bool, true, false, cond, not}
 use mathlib.Core.List.{List, [], _∷_}
 use lib.Dec.{ltb, leb, eqb}
 use lib.IntN.{ℤ, pos, negsuc}
 use lib.ListN.{length, getD}
-use Rattle.digits.specs.Digits.{digitOf, numberOf}
+use Rattle.digits.specs.Digits.{topBit, digitOf, numberOf}
 use Rattle.digits.specs.declared.Digit.{Digit}
 use Rattle.digits.specs.declared.Digit.the-variants.{Other, Capital, Small}
 use Rattle.digits.specs.declared.Number.{Number}
 use Rattle.digits.specs.declared.Number.the-variants.{NotDigits, Value}
 use Rattle.digits.specs.declared.Ident.{Ident}
 use Rattle.digits.specs.declared.Ident.the-variants.{Absent, Given}
-use Rattle.line.specs.Line.{code, five, second, isWithin, inputBits, isMaster}
-use Rattle.reply.specs.Reply.{positionOf}
+use Rattle.line.specs.Ranges.{isWithin, isAxis, inputBits}
+use Rattle.line.specs.Codes.{code, five, second}
+use Rattle.reply.specs.Reply.{letterU, letterS, letterSmallS, letterR, positionOf}
 use Rattle.host.specs.Writer.{identFits, isAbsent}
-use Rattle.reader.specs.declared.Reading.{Reading}
-use Rattle.reader.specs.declared.Reading.the-variants as R
+use Rattle.reader.specs.declared.reading.Reading.{Reading}
+use Rattle.reader.specs.declared.reading.Reading.the-variants as R
 
 -- What a block says in the paper's terms, each with the switch and the identification; or the number that turns it
 -- away.
@@ -64,10 +65,10 @@ isVerdict n ident =
 abbrev pub verdictIn : ℕ → ℕ → Ident → Figures
 verdictIn switch n ident = onlyIf (isVerdict n ident) (verdict switch n ident)
 
--- An order's digits: 8 with a master in the second digit; 9, A, B; D, E with input bits only.
+-- An order's digits: 8 with a master in the second digit, or 8 more; 9, A, B; D, E with input bits only.
 abbrev pub isEcho : ℕ → Bool
 isEcho n =
-    cond (eqb (code n) 8) (isMaster (second n))
+    cond (eqb (code n) 8) (isAxis (second n % 8))
     (cond (isWithin (code n) 9 11) true
     (cond (isWithin (code n) 13 14) (inputBits (five n))
     false))
@@ -75,25 +76,25 @@ isEcho n =
 -- S: 0-4 minus bit and travel; 6 status, bits 0 to 6; else an order's digits.
 abbrev pub orderIn : ℕ → ℕ → Ident → Figures
 orderIn switch n ident =
-    cond (ltb (code n) 5) (travelled switch (code n) (leb 524288 (five n)) (five n % 524288) ident)
+    cond (isAxis (code n)) (travelled switch (code n) (leb topBit (five n)) (five n % topBit) ident)
     (cond (eqb (code n) 6) (onlyIf (ltb (five n) 128) (status switch (five n) ident))
     (onlyIf (isEcho n) (echo switch n ident)))
 
 -- Five digits in 20-bit two's complement.
 abbrev pub signed : ℕ → ℤ
-signed v = cond (ltb v 524288) (pos v) (negsuc (1048575 - v))
+signed v = cond (ltb v topBit) (pos v) (negsuc (1048575 - v))
 
 -- s: 0-4 position.
 abbrev pub placeIn : ℕ → ℕ → Ident → Figures
-placeIn switch n ident = onlyIf (ltb (code n) 5) (placed switch (code n) (signed (five n)) ident)
+placeIn switch n ident = onlyIf (isAxis (code n)) (placed switch (code n) (signed (five n)) ident)
 
 -- U, S, s or R.
 unfoldable pub fieldsIn : ℕ → ℕ → ℕ → Ident → Figures
 fieldsIn letter switch n ident =
-    cond (eqb letter 85) (verdictIn switch n ident)
-    (cond (eqb letter 83) (orderIn switch n ident)
-    (cond (eqb letter 115) (placeIn switch n ident)
-    (cond (eqb letter 82) (inputs switch n ident)
+    cond (eqb letter letterU) (verdictIn switch n ident)
+    (cond (eqb letter letterS) (orderIn switch n ident)
+    (cond (eqb letter letterSmallS) (placeIn switch n ident)
+    (cond (eqb letter letterR) (inputs switch n ident)
     (refused 20))))
 
 -- ---- The bytes: letter, switch digit, six digits, the identification if given, 0D

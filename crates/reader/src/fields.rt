@@ -1,46 +1,22 @@
 // The fields of a block by its letter (paper 01, "Lines", Replies): each in its range, or the bytes are no block.
 // Each function is total and states its result for every input. Assumes nothing.
 ghost use mathlib.Core.Path.{_≡_};
-ghost use Rattle.line.specs.Line.{isWithin, inputBits, isMaster};
-ghost use Rattle.host.specs.Writer.{isAbsent};
 ghost use Rattle.reader.specs.Reader.{figuresOf, isVerdict, verdictIn, isEcho, orderIn, placeIn, fieldsIn};
-use crate::Reading;
+use crate::reading::Reading;
+use digits::FIVE_DIGITS;
+use digits::FOUR_DIGITS;
 use digits::Ident;
+use digits::TOP_BIT;
+use line::command::AXES;
+use line::command::input_bits;
+use line::command::within;
 use reply::Position;
 use reply::Travel;
 
-// The axes.
-const AXES: u32 = 5;
-// What five digits count to: the place of the code before them. What four count to, of the second digit.
-const FIVE_DIGITS: u32 = 1048576;
-
-const FOUR_DIGITS: u32 = 65536;
-// Half of it: the minus bit of a travel, and what a held position has added.
-const HALF: u32 = 524288;
 // What the status bits 0 to 6 count to.
 const STATUS_FULL: u32 = 128;
 // The highest number of a turned-away line.
 const LAST_NUMBER: u32 = 17;
-
-// The number from low to high, both taken.
-fn within(n: u32, low: u32, high: u32) -> bool
-    ensures { λ r. ⌜ r ≡ isWithin n low high ⌝ }
-{
-    if n < low {
-        return false;
-    }
-    n <= high
-}
-
-// Whether there is no identification.
-fn is_absent(ident: Ident) -> bool
-    ensures { λ r. ⌜ r ≡ isAbsent ident ⌝ }
-{
-    match ident {
-        Ident::Absent => true,
-        Ident::Given(_) => false,
-    }
-}
 
 // U: 0, 8 to 17, or 4 to 7 with no identification.
 fn is_verdict(number: u32, ident: Ident) -> bool
@@ -53,27 +29,7 @@ fn is_verdict(number: u32, ident: Ident) -> bool
         return true;
     }
     if within(number, 4, 7) {
-        return is_absent(ident);
-    }
-    false
-}
-
-// Master 0-4 at once, 8-C for 0-4 after the dwell.
-fn is_master(second: u32) -> bool
-    ensures { λ r. ⌜ r ≡ isMaster second ⌝ }
-{
-    if second <= 4 {
-        return true;
-    }
-    within(second, 8, 12)
-}
-
-// Bits 0-9, 12 and 13 only.
-fn input_bits(five: u32) -> bool
-    ensures { λ r. ⌜ r ≡ inputBits five ⌝ }
-{
-    if five / 16384 == 0 {
-        return five / 1024 % 4 == 0;
+        return host::is_absent(ident);
     }
     false
 }
@@ -85,7 +41,7 @@ fn is_echo(number: u32) -> bool
     let code = number / FIVE_DIGITS;
     let five = number % FIVE_DIGITS;
     if code == 8 {
-        return is_master(five / FOUR_DIGITS);
+        return five / FOUR_DIGITS % 8 < AXES as u32;
     }
     if within(code, 9, 11) {
         return true;
@@ -119,12 +75,12 @@ fn order_in(switch: u8, number: u32, ident: Ident) -> Reading
 {
     let code = number / FIVE_DIGITS;
     let five = number % FIVE_DIGITS;
-    if code < AXES {
-        let travel = Travel(five % HALF);
+    if code < AXES as u32 {
+        let travel = Travel(five % TOP_BIT);
         return Reading::Travelled {
             switch,
             axis: code as u8,
-            minus: HALF <= five,
+            minus: TOP_BIT <= five,
             travel,
             ident,
         };
@@ -155,10 +111,10 @@ fn place_in(switch: u8, number: u32, ident: Ident) -> Reading
 {
     let code = number / FIVE_DIGITS;
     let five = number % FIVE_DIGITS;
-    if AXES <= code {
+    if AXES as u32 <= code {
         return Reading::NotBlock;
     }
-    let position = Position((five + HALF) % FIVE_DIGITS);
+    let position = Position((five + TOP_BIT) % FIVE_DIGITS);
     Reading::Placed {
         switch,
         axis: code as u8,

@@ -4,63 +4,18 @@ ghost use mathlib.Core.Path.{_≡_};
 ghost use Rattle.reader.specs.Blocks.{BlocksRead};
 ghost use Rattle.reader.specs.ReadBack.{RepliesRead};
 ghost use Rattle.reader.specs.Reader.{figuresOf, digitsIn, switchIn, identIn, readOf};
+use crate::reading::Reading;
 use digits::Digit;
 use digits::Ident;
 use digits::Number;
-use reply::Position;
-use reply::Travel;
 
 mod fields;
+pub mod reading;
 
 // The switch that is none.
 const NO_SWITCH: u8 = 12;
 // Byte 0D, which ends a block.
 const END: u8 = 13;
-
-// What a block says, with its switch and its identification.
-pub enum Reading {
-    // 20: no block of the forms under Replies.
-    NotBlock,
-    // U: the number of a line turned away, 0 for an accepted setting.
-    Verdict {
-        switch: u8,
-        number: u8,
-        ident: Ident,
-    },
-    // S 0-4: an axis's travel in the latest move, and that move's direction.
-    Travelled {
-        switch: u8,
-        axis: u8,
-        minus: bool,
-        travel: Travel,
-        ident: Ident,
-    },
-    // S 6.
-    Status {
-        switch: u8,
-        status: u8,
-        ident: Ident,
-    },
-    // S 8, 9, A, B, D, E: the six digits of the order.
-    Echo {
-        switch: u8,
-        digits: u32,
-        ident: Ident,
-    },
-    // s 0-4: an axis's position.
-    Placed {
-        switch: u8,
-        axis: u8,
-        position: Position,
-        ident: Ident,
-    },
-    // R: the last tick's inputs.
-    Inputs {
-        switch: u8,
-        inputs: u32,
-        ident: Ident,
-    },
-}
 
 // Six digits, letters in capitals.
 fn digits_in(letter: u8, switch: u8, number: Number, ident: Ident) -> Reading

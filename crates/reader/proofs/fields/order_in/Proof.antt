@@ -6,8 +6,11 @@ use Rattle.reader.proofs.ReadLaws.{failed, passed}
 use Rattle.reader.proofs.fields.order_in.Statement.{statement}
 use Rattle.reader.proofs.fields.order_in.Tie as tie
 
-cast-t9 : tie.Need-cast-t9
-cast-t9 c = search needs
+cast-if1 : tie.Need-cast-if1
+cast-if1 c = search needs
+
+cast-t10 : tie.Need-cast-t10
+cast-t10 c = search needs
 
 returns : tie.Need-returns
 returns c = rw (lt-ltb _ _ (c .if1 .taken))
@@ -20,8 +23,8 @@ returns-2 c =
       le-ltb _ _ (c .if3 .taken),
     )
 
-cast-t12 : tie.Need-cast-t12
-cast-t12 c = search needs
+cast-t13 : tie.Need-cast-t13
+cast-t13 c = search needs
 
 returns-3 : tie.Need-returns-3
 returns-3 c =
@@ -53,4 +56,4 @@ returns-5 c =
 pub order-in-spec : {M : Type 1} → statement M
 order-in-spec =
     tie.close
-    (tie.spec cast-t9 returns returns-2 cast-t12 returns-3 is-echo-requires returns-4 returns-5)
+    (tie.spec cast-if1 cast-t10 returns returns-2 cast-t13 returns-3 is-echo-requires returns-4 returns-5)

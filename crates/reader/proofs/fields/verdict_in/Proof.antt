@@ -1,7 +1,7 @@
 -- A U block, by its number. Assumes nothing.
 use borrow.Author.Needs.{needs}
 use mathlib.Core.Path.{refl}
-use Rattle.reader.proofs.BlockLaws.{number-over}
+use Rattle.reader.proofs.VerdictLaws.{number-over}
 use Rattle.reader.proofs.ReadLaws.{failed, passed}
 use Rattle.reader.proofs.fields.verdict_in.Statement.{statement}
 use Rattle.reader.proofs.fields.verdict_in.Tie as tie
