@@ -11,5 +11,6 @@ pub mod StageLaws
 pub mod ByteLaws
 pub mod EntryLaws
 pub mod ReachLaws
+pub mod GatherLaws
 pub mod AnswerLaws
 pub mod FrontLaws

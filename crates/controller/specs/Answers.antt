@@ -14,7 +14,7 @@ use Rattle.reply.specs.Reply.{positionOf}
 use Rattle.machine.specs.State.{Machine}
 use Rattle.machine.specs.Steps.{byteStep, tickStep, bufferAfter}
 use Rattle.machine.specs.Calls as calls
-use Rattle.machine.specs.Calls.{Call, state}
+use Rattle.machine.specs.Calls.{Call, state, buffer}
 use Rattle.machine.specs.Roles.{begins, lineOf, resetBy}
 use Rattle.machine.specs.List.{effect, isPulse, travel, position, latest}
 use Rattle.machine.specs.Demand.{Holds}
@@ -32,6 +32,12 @@ abbrev pub ReplyIn : List ℕ → ℕ → List ℕ → Type 0
 ReplyIn buffer n part =
     (m : Machine) (b : ℕ) (entry : List ℕ) → buffer ≡ bufferAfter (byteStep m b entry) entry
     → n ≡ length (byteStep m b entry .reply) → part ≡ byteStep m b entry .reply
+
+-- Bytes that come one after another, each with a buffer of 120 bytes, have neither a reply nor a number.
+abbrev pub Quiet : Machine → List ℕ → Type 0
+Quiet m [] = Unit {0}
+Quiet m (b ∷ bs) =
+    (byteStep m b buffer .reply ≡ []) × ((byteStep m b buffer .number ≡ 0) × Quiet (byteStep m b buffer .machine) bs)
 
 -- ---- Calls with their answers
 

@@ -1,11 +1,12 @@
 -- How the controller holds the values of the machine: the one definition that says so. Positions are held with 524,288
 -- added; beside each travel stands the remainder of m × d / M; M, m and the parts of the output words are kept ready.
 use Prim.Native.Nat.{ℕ, _+_, _*_, _%_}
+use mathlib.Core.List.{List, []}
 use lib.IntN.{ℤ}
 use lib.ListN.{length}
 use Rattle.laws.specs.Axes.{each}
 use Rattle.outputs.specs.Outputs.{generalOf, restOf, fireOf, stillOf}
-use Rattle.receiver.specs.Receiver.{holding}
+use Rattle.receiver.specs.Receiver.{holding, beforeEnd}
 use Rattle.reply.specs.declared.Travel.{Travel}
 use Rattle.reply.specs.declared.Position.{Position}
 use Rattle.reply.specs.Reply.{bias}
@@ -15,10 +16,12 @@ use Rattle.machine.specs.Shares.{whole, gone}
 use Rattle.machine.specs.Replies.{travelOf, positionOf}
 use Rattle.machine.specs.Steps as steps
 use Rattle.machine.specs.Steps.{powerOn, powerNumber}
+use Rattle.machine.specs.Calls.{bytes, from}
 use Rattle.controller.specs.declared.Controller.{Controller}
 use Rattle.controller.specs.declared.Cold.{Cold}
 use Rattle.controller.specs.declared.PowerOn.{PowerOn}
 use Rattle.controller.specs.declared.ByteAnswer.{ByteAnswer}
+use Rattle.controller.specs.declared.Gathered.{Gathered}
 use Rattle.controller.specs.declared.TickAnswer.{TickAnswer}
 use Rattle.controller.specs.declared.hot.Hot.{Hot}
 use Rattle.controller.specs.declared.hot.Settings.{Settings}
@@ -121,6 +124,11 @@ heldPosition m k = record { 0 = bias (positionOf m k) }
 
 abbrev pub heldByte : steps.ByteAnswer → ByteAnswer
 heldByte a = record { controller = held (a .machine); length = length (a .reply); number = a .number }
+
+-- The bytes before the first 0D, each a call with a buffer of 120 bytes.
+abbrev pub heldGathered : Machine → List ℕ → Gathered
+heldGathered m bs =
+    record { controller = held (from m (bytes (beforeEnd bs) [])); count = length (beforeEnd bs) }
 
 abbrev pub heldTick : steps.TickAnswer → TickAnswer
 heldTick a = record {

@@ -11,10 +11,11 @@ ghost use Rattle.machine.specs.Demand.{Demand3};
 ghost use Rattle.machine.specs.Marked.{Marked};
 ghost use Rattle.machine.specs.Witness.{Witness};
 ghost use Rattle.machine.specs.Stops.{status};
-ghost use Rattle.controller.specs.Held.{heldPower};
+ghost use Rattle.receiver.specs.Receiver.{beforeEnd};
+ghost use Rattle.controller.specs.Held.{heldPower, heldGathered};
 ghost use Rattle.controller.specs.Reach.{Reachable, Made};
 ghost use Rattle.controller.specs.Answers as answered;
-ghost use Rattle.controller.specs.Answers.{ReplyIn, Promised, TravelsOf, PositionsOf, Demand3Answers};
+ghost use Rattle.controller.specs.Answers.{Quiet, ReplyIn, Promised, TravelsOf, PositionsOf, Demand3Answers};
 ghost use Rattle.controller.specs.Inner.Power.{badOf, freshOf, lineWith};
 use crate::hot::Counters;
 use crate::hot::Flags;
@@ -61,6 +62,12 @@ pub struct ByteAnswer {
     pub controller: Controller,
     pub length: usize,
     pub number: u8,
+}
+
+// What a stretch of bytes answers: the next controller, and how many bytes it took.
+pub struct Gathered {
+    pub controller: Controller,
+    pub count: usize,
 }
 
 // What a tick answers: the next controller, the five pulses (-1, 0, 1), the output words of its two halves, and the
@@ -222,6 +229,24 @@ impl Controller {
                 ident,
                 judged,
             } => told::lined(controller, buf, silent, ident, judged),
+        }
+    }
+
+    // The bytes of a stretch before its first 0D, at once: the controller is the machine's after each of them, in a
+    // list of calls. None of them has a reply or a number (`Quiet`), so that no buffer is lent.
+    pub fn gather(self, bytes: &[u8]) -> Gathered
+        requires { ⌜ Reachable self ⌝ }
+        ensures { λ r. ⌜ Made self (λ m. r ≡ heldGathered m (now (bytes .entry))) ⌝ }
+        ensures { λ _. ⌜ Made self (λ m. Quiet m (beforeEnd (now (bytes .entry)))) ⌝ }
+        ensures { λ r. ⌜ Reachable (r .controller) ⌝ }
+    {
+        let line = self.cold.line;
+        let gathered = line.gather(bytes);
+        let next = gathered.next;
+        let controller = with_line(self, next);
+        Gathered {
+            controller,
+            count: gathered.count,
         }
     }
 
