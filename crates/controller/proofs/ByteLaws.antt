@@ -34,9 +34,9 @@ use Rattle.controller.specs.declared.Controller.{Controller}
 use Rattle.controller.specs.Held.{held, heldHot, heldPlan, heldSettings}
 use Rattle.controller.specs.Inner.Parts.{withFlag, withHot, withNext, blockedIn}
 use Rattle.controller.specs.Inner.Start.{begunOf, startNumberOf}
+use Rattle.controller.specs.Inner.Settings.{setSettingOf}
 use Rattle.controller.specs.Inner.Orders.{
   numberOf,
-  setSettingOf,
   obeyStartOf,
   obeyStopOf,
   obeyOrderOf,

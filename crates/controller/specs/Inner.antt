@@ -5,6 +5,7 @@ pub mod Parts
 pub mod Motion
 pub mod Watch
 pub mod Start
+pub mod Settings
 pub mod Orders
 pub mod Told
 pub mod Power

@@ -33,6 +33,7 @@ use reply::Travel;
 mod hot;
 mod motion;
 mod orders;
+mod settings;
 mod start;
 mod told;
 mod watch;

@@ -4,12 +4,7 @@ ghost use mathlib.Core.Path.{_≡_};
 ghost use Prim.Native.Nat.{_<_};
 ghost use Rattle.line.specs.Fits.{CommandFits};
 ghost use Rattle.controller.specs.Inner.Start.{StartFits};
-ghost use Rattle.controller.specs.Inner.Parts.{put};
 ghost use Rattle.controller.specs.Inner.Orders.{
-  setAxisOf,
-  setPolarityOf,
-  setSettingOf,
-  setOutputsOf,
   storesOf,
   restNumberOf,
   settingNumberOf,
@@ -26,14 +21,11 @@ ghost use Rattle.controller.specs.Inner.Orders.{
 use crate::Controller;
 use crate::hot;
 use crate::hot::Flags;
-use crate::hot::Settings;
+use crate::settings;
 use crate::start;
 use line::command;
 use line::command::Command;
 use reply::Position;
-
-// The code of the polarity.
-const POLARITY: u8 = 12;
 
 // A start after the dwell is stored if a dwell runs.
 fn stores(c: Controller, waits: bool) -> bool
@@ -99,83 +91,6 @@ pub(crate) fn number(c: Controller, command: Command) -> u8
         Command::Outputs(_) => 0,
         Command::Read(_) => 0,
     }
-}
-
-// The next move's distance and direction of an axis.
-fn set_axis(c: Controller, axis: u8, minus: bool, length: u32) -> Controller
-    requires { ⌜ axis < 5 ⌝ }
-    ensures { λ r. ⌜ r ≡ setAxisOf c axis minus length ⌝ }
-{
-    let k = axis as usize;
-    let mut plan = c.cold.next;
-    plan.distances[k] = length;
-    plan.minus[k] = minus;
-    let mut cold = c.cold;
-    cold.next = plan;
-    let mut next = c;
-    next.cold = cold;
-    next
-}
-
-// The settings with the one of this code replaced. (No line has another code.)
-fn put(settings: Settings, code: u8, v: u32) -> Settings
-    ensures { λ r. ⌜ r ≡ put settings code v ⌝ }
-{
-    let mut next = settings;
-    match code {
-        8 => next.speed = v,
-        9 => next.slope = v,
-        10 => next.dwell = v,
-        11 => next.watch = v,
-        12 => next.polarity = v,
-        13 => next.low = v,
-        14 => next.high = v,
-        _ => {}
-    }
-    next
-}
-
-// The polarity, and what the axes' lines add to an output word under it.
-fn set_polarity(c: Controller, v: u32) -> Controller
-    ensures { λ r. ⌜ r ≡ setPolarityOf c v ⌝ }
-{
-    let minus = c.hot.plan.minus;
-    let cells = outputs::axis_cells(c.cold.switch, v, minus);
-    let mut wires = c.hot.wires;
-    wires.cells = cells;
-    let mut hot = c.hot;
-    hot.wires = wires;
-    let mut next = c;
-    next.hot = hot;
-    next.cold.settings.polarity = v;
-    next
-}
-
-// A setting by its code.
-fn set_setting(c: Controller, code: u8, v: u32) -> Controller
-    ensures { λ r. ⌜ r ≡ setSettingOf c code v ⌝ }
-{
-    if code == POLARITY {
-        return set_polarity(c, v);
-    }
-    let was = c.cold.settings;
-    let settings = put(was, code, v);
-    let mut cold = c.cold;
-    cold.settings = settings;
-    let mut next = c;
-    next.cold = cold;
-    next
-}
-
-// The general outputs, and what they add to an output word.
-fn set_outputs(c: Controller, v: u32) -> Controller
-    ensures { λ r. ⌜ r ≡ setOutputsOf c v ⌝ }
-{
-    let general = outputs::general(c.cold.switch, v);
-    let mut next = c;
-    next.hot.wires.general = general;
-    next.hot.outputs = v;
-    next
 }
 
 // A start that is stored waits, any other begins a move.
@@ -268,11 +183,11 @@ pub(crate) fn does(c: Controller, command: Command) -> Controller
             axis,
             minus,
             length,
-        } => set_axis(c, axis, minus, length),
-        Command::Set { code, value } => set_setting(c, code, value),
+        } => settings::set_axis(c, axis, minus, length),
+        Command::Set { code, value } => settings::set_setting(c, code, value),
         Command::Start { master, waits } => obey_start(c, master, waits),
         Command::Order(code) => obey_order(c, code),
-        Command::Outputs(v) => set_outputs(c, v),
+        Command::Outputs(v) => settings::set_outputs(c, v),
         Command::Read(_) => c,
     }
 }

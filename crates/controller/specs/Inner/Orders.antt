@@ -2,11 +2,9 @@
 use Prim.Native.Nat.{ℕ, _+_}
 use mathlib.Core.Bool.{Bool, true, false, cond, _&&_, _||_}
 use lib.Dec.{ltb, eqb}
-use lib.ListN.{set}
 use Rattle.laws.specs.Axes.{each}
 use Rattle.digits.specs.Digits.{topBit}
 use Rattle.inputs.specs.Inputs.{activeAt}
-use Rattle.outputs.specs.Outputs.{generalOf}
 use Rattle.line.specs.declared.command.Command.{Command}
 use Rattle.line.specs.declared.command.Command.the-variants as C
 use Rattle.line.specs.Ranges.{isWithin}
@@ -15,16 +13,12 @@ use Rattle.controller.specs.declared.hot.Hot.{Hot}
 use Rattle.controller.specs.Inner.Parts.{
   withCounters,
   withStopping,
-  withWires,
   withPause,
-  withOutputs,
   withWatch,
   withFlag,
   withHot,
-  withSetting,
-  withNext,
-  cellsOf,
 }
+use Rattle.controller.specs.Inner.Settings.{setAxisOf, setSettingOf, setOutputsOf}
 use Rattle.controller.specs.Inner.Start.{startNumberOf, begunOf}
 
 -- ---- Numbers
@@ -57,26 +51,6 @@ numberOf c (C.Outputs v) = 0
 numberOf c (C.Read r) = 0
 
 -- ---- Effects
-
--- The next move's distance and direction of an axis.
-abbrev pub setAxisOf : Controller → ℕ → Bool → ℕ → Controller
-setAxisOf c k s d =
-    withNext c (record { distances = set (c .cold .next .distances) k d; minus = set (c .cold .next .minus) k s })
-
--- The polarity, and what each axis adds to an output word under it.
-abbrev pub setPolarityOf : Controller → ℕ → Controller
-setPolarityOf c v =
-    withSetting
-    (withHot c (withWires (c .hot) (c .hot .wires .general) (cellsOf (c .cold .switch) v (c .hot .plan .minus)))) 12 v
-
--- A setting by its code.
-abbrev pub setSettingOf : Controller → ℕ → ℕ → Controller
-setSettingOf c code v = cond (eqb code 12) (setPolarityOf c v) (withSetting c code v)
-
--- The general outputs, and what they add to an output word.
-abbrev pub setOutputsOf : Controller → ℕ → Controller
-setOutputsOf c v =
-    withHot c (withOutputs (withWires (c .hot) (generalOf (c .cold .switch) v) (c .hot .wires .cells)) v)
 
 -- The start with this master waits.
 abbrev pub obeyStartStored : Hot → ℕ → Hot

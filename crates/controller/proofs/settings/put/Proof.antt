@@ -1,7 +1,7 @@
 -- The setting of each code, and none for any other. Assumes nothing.
 use borrow.Author.Tests.{ne-eqb}
-use Rattle.controller.proofs.orders.put.Statement.{statement}
-use Rattle.controller.proofs.orders.put.Tie as tie
+use Rattle.controller.proofs.settings.put.Statement.{statement}
+use Rattle.controller.proofs.settings.put.Tie as tie
 
 returns : tie.Need-returns
 returns c = rw (c .match .keys1)

@@ -1,8 +1,8 @@
 -- `set_outputs` meets its contract: each return, by the tests and the answers that led there. Assumes nothing.
 use borrow.Author.Needs.{needs}
 use Rattle.controller.specs.Inner.Parts.{withHot, withWires, withOutputs}
-use Rattle.controller.proofs.orders.set_outputs.Statement.{statement}
-use Rattle.controller.proofs.orders.set_outputs.Tie as tie
+use Rattle.controller.proofs.settings.set_outputs.Statement.{statement}
+use Rattle.controller.proofs.settings.set_outputs.Tie as tie
 
 general-requires : tie.Need-general-requires
 general-requires c κs = search needs
