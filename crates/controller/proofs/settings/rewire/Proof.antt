@@ -12,7 +12,11 @@ returns c =
     let w = c .before .before in
     let q = w .before .before .args in
     λ i. withHot (q .c) (withWires (q .c .hot) (q .c .hot .wires .general)
-    (record { rests = w .axis-cells .ensures .0 i; fires = w .axis-cells .ensures .1 .0 i; still = w .axis-cells .ensures .1 .1 i }))
+    (record {
+      rests = w .axis-cells .ensures .0 i;
+      fires = w .axis-cells .ensures .1 .0 i;
+      still = w .axis-cells .ensures .1 .1 i;
+    }))
 
 pub rewire-spec : {M : Type 1} → statement M
 rewire-spec = tie.close (tie.spec axis-cells-requires returns)
