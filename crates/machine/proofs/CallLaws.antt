@@ -63,7 +63,30 @@ use Rattle.machine.specs.Steps.{
   tooLarge,
 }
 use Rattle.machine.specs.Calls.{Call, byte, tick, after}
-use Rattle.machine.specs.Roles.{Role, other, distanceLine, dwellLine, startLine, stopOrder, resetOrder, roleOf, roleBy, lineOf, startBy, named, takesEffect, stopBy, stopsIn, resetBy, distanceBy, minusBy, sent, isTick, begins, atStart}
+use Rattle.machine.specs.Roles.{
+  Role,
+  other,
+  distanceLine,
+  dwellLine,
+  startLine,
+  stopOrder,
+  resetOrder,
+  roleOf,
+  roleBy,
+  lineOf,
+  startBy,
+  named,
+  takesEffect,
+  stopBy,
+  stopsIn,
+  resetBy,
+  distanceBy,
+  minusBy,
+  sent,
+  isTick,
+  begins,
+  atStart,
+}
 use Rattle.machine.specs.List.{isPulse}
 use Rattle.machine.proofs.BitLaws.{status-moving}
 use Rattle.machine.proofs.ShareLaws.{share-none}

@@ -12,8 +12,43 @@ use Rattle.laws.specs.Axes.{directed}
 use Rattle.laws.proofs.Tests.{true-false, both, neither, either, second}
 use Rattle.machine.specs.Steps.{Tried, untried, failed, began}
 use Rattle.machine.specs.Calls.{Call, after, run, state}
-use Rattle.machine.specs.Roles.{Role, lineOf, takesEffect, moves, stopsIn, resetBy, distanceBy, minusBy, sent, isTick, begins, atStart, pauseAfter, dwellBy}
-use Rattle.machine.specs.List.{isPulse, lastDwell, paused, effect, lastDistance, lastMinus, started, distance, minus, master, counted, signed, stopBegun, goesOn, ends, latest, travel, gone, whole}
+use Rattle.machine.specs.Roles.{
+  Role,
+  lineOf,
+  takesEffect,
+  moves,
+  stopsIn,
+  resetBy,
+  distanceBy,
+  minusBy,
+  sent,
+  isTick,
+  begins,
+  atStart,
+  pauseAfter,
+  dwellBy,
+}
+use Rattle.machine.specs.List.{
+  isPulse,
+  lastDwell,
+  paused,
+  effect,
+  lastDistance,
+  lastMinus,
+  started,
+  distance,
+  minus,
+  master,
+  counted,
+  signed,
+  stopBegun,
+  goesOn,
+  ends,
+  latest,
+  travel,
+  gone,
+  whole,
+}
 use Rattle.machine.specs.Demand.{ShareLaw, Answer, Ended, Demand3}
 use Rattle.machine.proofs.BitLaws.{status-moving}
 use Rattle.machine.proofs.ShareLaws.{Share, share-none}

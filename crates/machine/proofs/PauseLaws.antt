@@ -48,7 +48,20 @@ use Rattle.machine.specs.Steps.{
   TickAnswer,
 }
 use Rattle.machine.specs.Calls.{Call, byte, tick, after}
-use Rattle.machine.specs.Roles.{other, dwellLine, roleOf, roleBy, lineOf, begins, startBy, named, waitingBy, dwellBy, moves, pauseAfter}
+use Rattle.machine.specs.Roles.{
+  other,
+  dwellLine,
+  roleOf,
+  roleBy,
+  lineOf,
+  begins,
+  startBy,
+  named,
+  waitingBy,
+  dwellBy,
+  moves,
+  pauseAfter,
+}
 use Rattle.machine.proofs.BitLaws.{status-moving}
 
 -- ---- Bytes

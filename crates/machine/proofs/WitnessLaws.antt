@@ -3,7 +3,22 @@ use mathlib.Core.Path.{refl}
 use Rattle.digits.specs.Digits.{numberOf}
 use Rattle.line.specs.Line.{judgeOf, judgeRow}
 use Rattle.machine.specs.Calls.{run}
-use Rattle.machine.specs.List.{lastDistance, lastMinus, lastDwell, paused, started, ends, goesOn, stopBegun, distance, minus, master, counted, signed, latest}
+use Rattle.machine.specs.List.{
+  lastDistance,
+  lastMinus,
+  lastDwell,
+  paused,
+  started,
+  ends,
+  goesOn,
+  stopBegun,
+  distance,
+  minus,
+  master,
+  counted,
+  signed,
+  latest,
+}
 use Rattle.machine.specs.Witness.{
   begun,
   ordered,

@@ -7,7 +7,22 @@ use lib.IntN.{natAbs}
 use Rattle.laws.specs.Axes.{directed}
 use Rattle.machine.specs.Starts.{outside}
 use Rattle.machine.specs.Calls.{Call, state}
-use Rattle.machine.specs.List.{paused, started, distance, minus, counted, signed, stopBegun, goesOn, ends, latest, travel, position, gone, whole}
+use Rattle.machine.specs.List.{
+  paused,
+  started,
+  distance,
+  minus,
+  counted,
+  signed,
+  stopBegun,
+  goesOn,
+  ends,
+  latest,
+  travel,
+  position,
+  gone,
+  whole,
+}
 
 -- Once a start has taken effect: t × M ≤ m × d < (t + 1) × M, with d ≤ M and M > 0; m ≤ M, and so t ≤ d; and each
 -- travel equals the pulses that pump has sent in that move.

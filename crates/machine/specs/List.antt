@@ -15,7 +15,22 @@ use Rattle.machine.specs.Stops.{status}
 use Rattle.machine.specs.Replies.{travelOf, positionOf}
 use Rattle.machine.specs.Steps.{accepted, Tried}
 use Rattle.machine.specs.Calls.{Call, tick, after, state}
-use Rattle.machine.specs.Roles.{atStart, begins, distanceBy, dwellBy, isTick, lineOf, minusBy, moves, named, pauseAfter, resetBy, sent, stopsIn, takesEffect}
+use Rattle.machine.specs.Roles.{
+  atStart,
+  begins,
+  distanceBy,
+  dwellBy,
+  isTick,
+  lineOf,
+  minusBy,
+  moves,
+  named,
+  pauseAfter,
+  resetBy,
+  sent,
+  stopsIn,
+  takesEffect,
+}
 
 -- The last accepted distance line of an axis, 0 and plus without one.
 unfoldable pub lastDistance : ℕ → List Call → ℕ → ℕ

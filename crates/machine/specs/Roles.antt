@@ -11,7 +11,21 @@ use Rattle.line.specs.declared.command.Command.the-variants as C
 use Rattle.machine.specs.State.{Machine, Waiting, none, start, Pause}
 use Rattle.laws.specs.Bits.{bit}
 use Rattle.machine.specs.Stops.{cause, status}
-use Rattle.machine.specs.Steps.{Outcome, untaken, gathered, refused, accepted, outcome, Tried, untried, failed, began, looks, tooLarge, tickStep}
+use Rattle.machine.specs.Steps.{
+  Outcome,
+  untaken,
+  gathered,
+  refused,
+  accepted,
+  outcome,
+  Tried,
+  untried,
+  failed,
+  began,
+  looks,
+  tooLarge,
+  tickStep,
+}
 use Rattle.machine.specs.Calls.{Call, byte, tick, after}
 
 -- What an accepted line is to the list: a distance line, a dwell line, a start, order 9, a position reset, or none of

@@ -14,7 +14,21 @@ use Rattle.machine.specs.Steps.{tickStep}
 use Rattle.machine.specs.Calls.{Call, tick, state, line, lines, ticks}
 use Rattle.machine.specs.Marked.{told}
 use Rattle.machine.specs.Flagged.{Flagged}
-use Rattle.machine.specs.List.{paused, started, ends, goesOn, stopBegun, distance, minus, master, travel, counted, position, signed, latest}
+use Rattle.machine.specs.List.{
+  paused,
+  started,
+  ends,
+  goesOn,
+  stopBegun,
+  distance,
+  minus,
+  master,
+  travel,
+  counted,
+  position,
+  signed,
+  latest,
+}
 
 -- ---- The lists, the latest call first; ticks have the input word 0
 
