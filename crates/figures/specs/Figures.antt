@@ -8,6 +8,7 @@ use mathlib.Core.Path.{_≡_}
 use lib.Dec.{leb, eqb}
 use lib.Ieee.{Float, nan, inf, fin, binary64, up, down, round}
 use lib.Ieee.Exact.{HasValue}
+use Rattle.line.specs.Ranges.{topSpeed, topSlope}
 use Rattle.line.specs.declared.command.Command.{Command}
 use Rattle.line.specs.declared.command.Command.the-variants as Line
 use Rattle.figures.specs.declared.Units.{Units}
@@ -72,10 +73,10 @@ unitsOf a c most (fin false m e) =
 
 -- P 8 takes 1 to 1,000,000 units of 1/4 Hz, P 9 takes 1 to 4,095 of 5/4 Hz per ms.
 abbrev pub speedUnits : Float → Answer ℕ
-speedUnits x = unitsOf 1 4 1000000 x
+speedUnits x = unitsOf 1 4 topSpeed x
 
 abbrev pub slopeUnits : Float → Answer ℕ
-slopeUnits x = unitsOf 5 4 4095 x
+slopeUnits x = unitsOf 5 4 topSlope x
 
 -- The same with no arithmetic: r gives n where x is the very f64 of an n in range, only there, and is 21 elsewhere.
 pub record ReadBack (figure : ℕ → Float) (most : ℕ) (x : Float) (r : Answer ℕ) : Type 0 where

@@ -4,6 +4,7 @@
 // reachable. Assumes nothing.
 ghost use Prim.Native.Nat.{ℕ, _*_};
 ghost use mathlib.Core.Path.{_≡_};
+ghost use Rattle.line.specs.Ranges.{topSpeed, topSlope};
 ghost use Rattle.controller.specs.Reach.{Reachable, Made};
 ghost use Rattle.figures.specs.Figures.{
   Exactly,
@@ -21,19 +22,17 @@ ghost use Rattle.figures.specs.Figures.{
 };
 use controller::Controller;
 use line::command::Command;
+use line::command::TOP_SLOPE;
+use line::command::TOP_SPEED;
 
-// The speed: its code, its unit in hertz, and how many there may be (P 8).
+// The speed: its code and its unit in hertz (P 8).
 const SPEED: u8 = 8;
 
 const SPEED_UNIT: f64 = 0.25;
-
-const SPEED_MOST: u32 = 1000000;
-// The slope: its code, its unit in hertz per ms, and how many there may be (P 9).
+// The slope: its code and its unit in hertz per ms (P 9).
 const SLOPE: u8 = 9;
 
 const SLOPE_UNIT: f64 = 1.25;
-
-const SLOPE_MOST: u32 = 4095;
 // The largest u32.
 const LARGEST: f64 = 4294967295.0;
 // "Turned away" 21.
@@ -94,17 +93,17 @@ fn read_units(x: f64, unit: f64, most: u32) -> Units
 // A speed in hertz, read back.
 pub fn speed_units(x: f64) -> Units
     ensures { λ r. ⌜ countOf r ≡ speedUnits x ⌝ }
-    ensures { λ r. ⌜ ReadBack speedHz 1000000 x (countOf r) ⌝ }
+    ensures { λ r. ⌜ ReadBack speedHz topSpeed x (countOf r) ⌝ }
 {
-    read_units(x, SPEED_UNIT, SPEED_MOST)
+    read_units(x, SPEED_UNIT, TOP_SPEED)
 }
 
 // A slope in hertz per ms, read back.
 pub fn slope_units(x: f64) -> Units
     ensures { λ r. ⌜ countOf r ≡ slopeUnits x ⌝ }
-    ensures { λ r. ⌜ ReadBack slopeHz 4095 x (countOf r) ⌝ }
+    ensures { λ r. ⌜ ReadBack slopeHz topSlope x (countOf r) ⌝ }
 {
-    read_units(x, SLOPE_UNIT, SLOPE_MOST)
+    read_units(x, SLOPE_UNIT, TOP_SLOPE)
 }
 
 // The P command that makes the setting.
