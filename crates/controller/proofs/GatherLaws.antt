@@ -23,7 +23,7 @@ use Rattle.controller.specs.Answers.{Quiet}
 use Rattle.controller.specs.Inner.Power.{lineWith}
 
 -- One character.
-character : (m : Machine) (b : ℕ) → eqb b 13 ≡ false
+pub character : (m : Machine) (b : ℕ) → eqb b 13 ≡ false
     → byteStep m b buffer ≡ record { machine = withLine m (m .line ++ (b ∷ [])); reply = []; number = 0 }
 character m b e =
     ap (λ (t : Bool). answered m b (outcomeOf m (cond {A = Receipt} t (record { line = []; heard = heardLine (m .line) })
@@ -35,7 +35,7 @@ character m b e =
       number = 0;
     }) e
 
-run-on : (o : Origin) (x : Call) (h : List Call) → run o (x ∷ h) ≡ after (run o h) x
+pub run-on : (o : Origin) (x : Call) (h : List Call) → run o (x ∷ h) ≡ after (run o h) x
 unfolding run
 run-on (power s) x h = refl
 run-on (given m) x h = refl

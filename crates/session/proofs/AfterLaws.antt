@@ -24,7 +24,7 @@ taken-on : (x : Bench) (b : ℕ) → Lives x → Lives (taken x b .bench)
 taken-on x b l =
     subst (λ (y : Bench). Lives (taken y b .bench)) (l .is) (taken-lives (l .switch) (l .history) b (l .place))
 
-after-lives : (bs : List ℕ) (x : Bench) → Lives x → Lives (after x bs)
+pub after-lives : (bs : List ℕ) (x : Bench) → Lives x → Lives (after x bs)
 unfolding after
 after-lives [] x l = l
 after-lives (b ∷ bs) x l = after-lives bs (taken x b .bench) (taken-on x b l)

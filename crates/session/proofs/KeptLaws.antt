@@ -1,12 +1,14 @@
 -- The characters of a line that begins with T, however many: what is kept of them after one more, and what the line
 -- asks at its end. Assumes nothing.
-use Prim.Native.Nat.{ℕ, suc, min, _+_, _-_, _≤_, _<_}
+use Prim.Native.Nat.{ℕ, min, _+_, _-_, _<_}
+use native.Mathlib.Numerals.{add-one}
 use native.Mathlib.Omega.{arith}
-use mathlib.Core.List.{List, [], _∷_, _++_}
+use mathlib.Core.List.{List, [], _∷_, _++_, append-nil, append-assoc}
 use mathlib.Core.Path.{_≡_, refl, sym, ap, _∙_}
-use lib.ListN.{length, take, set, replicate, length-append, length-take}
-use lib.Seq.{take-all, take-append-le, take-at, set-append-seam, append-snoc}
+use lib.ListN.{length, getD, take, replicate, length-take}
+use lib.Seq.{take-all, take-at, take-suc, take-length}
 use Rattle.laws.proofs.Pick.{by-le, by-lt, on-ge, on-lt}
+use Rattle.receiver.proofs.KeepLaws.{full-chars, full-count, room-chars, room-count}
 use Rattle.session.specs.declared.kept.Kept.{Kept}
 use Rattle.session.specs.declared.asked.Asked.{Asked}
 use Rattle.session.specs.declared.asked.Asked.the-variants.{Malformed}
@@ -15,58 +17,29 @@ use Rattle.session.specs.Kept.{keeping, Keeping, pushOf, keptAsked}
 
 -- ---- one character more
 
-module _ (l : List ℕ) (b : ℕ) where
-  push-full : 17 ≤ min 17 (length l) → keeping l ≡ keeping (l ++ (b ∷ []))
-  push-full h = λ i. record { chars = p i; count = q i }
-    where
-      k : 17 ≤ length l
-      k = omega arith
-
-      y : 17 - length l ≡ 0
-      y = omega arith
-
-      z : 17 - (length l + 1) ≡ 0
-      z = omega arith
-
-      p : take 17 l ++ replicate (17 - length l) 0
-          ≡ take 17 (l ++ (b ∷ [])) ++ replicate (17 - length (l ++ (b ∷ []))) 0
-      p = rw (length-append l (b ∷ []), take-append-le 17 l (b ∷ []) k, y, z)
-
-      q : min 17 (length l) ≡ min 17 (length (l ++ (b ∷ [])))
-      q = rw (length-append l (b ∷ [])) (omega arith)
-
-  push-room : min 17 (length l) < 17
-      → record {
-        chars = set (take 17 l ++ replicate (17 - length l) 0) (min 17 (length l)) b;
-        count = min 17 (length l) + 1;
-      }
-      ≡ keeping (l ++ (b ∷ []))
-  push-room h = λ i. record { chars = p i; count = q i }
-    where
-      k : length l ≤ 17
-      k = omega arith
-
-      m : length (l ++ (b ∷ [])) ≤ 17
-      m = rw (length-append l (b ∷ [])) (omega arith)
-
-      y : 17 - length l ≡ suc (17 - (length l + 1))
-      y = omega arith
-
-      x : min 17 (length l) ≡ length l
-      x = omega arith
-
-      p : set (take 17 l ++ replicate (17 - length l) 0) (min 17 (length l)) b
-          ≡ take 17 (l ++ (b ∷ [])) ++ replicate (17 - length (l ++ (b ∷ []))) 0
-      p =
-          rw (take-all 17 (l ++ (b ∷ [])) m, take-all 17 l k, x, length-append l (b ∷ []), y, append-snoc)
-          (set-append-seam l 0 (replicate (17 - (length l + 1)) 0) b)
-
-      q : min 17 (length l) + 1 ≡ min 17 (length (l ++ (b ∷ [])))
-      q = rw (length-append l (b ∷ [])) (omega arith)
-
 pub push-keeping : (l : List ℕ) (b : ℕ) → pushOf (keeping l) b ≡ keeping (l ++ (b ∷ []))
 push-keeping l b =
-    by-le (λ (r : Kept). r ≡ keeping (l ++ (b ∷ []))) 17 (min 17 (length l)) _ _ (push-full l b) (push-room l b)
+    by-le (λ (r : Kept). r ≡ keeping (l ++ (b ∷ []))) 17 (min 17 (length l)) _ _
+    (λ h i. record { chars = full-chars 17 l (b ∷ []) h i; count = full-count 17 l (b ∷ []) h i })
+    (λ h i. record { chars = room-chars 17 l b h i; count = room-count 17 l b h i })
+
+-- ---- characters one after another
+
+pub kept-none : (k : Kept) (cs : List ℕ) → Keeping k (λ l. k ≡ keeping (l ++ take 0 cs))
+kept-none k cs l e = sym e ∙ ap keeping (sym (append-nil l))
+
+pub kept-one : (k t r : Kept) (cs : List ℕ) (i : ℕ) → i < length cs
+    → Keeping k (λ l. t ≡ keeping (l ++ take i cs)) → Keeping t (λ l. r ≡ keeping (l ++ (getD cs i 0 ∷ [])))
+    → Keeping k (λ l. r ≡ keeping (l ++ take (i + 1) cs))
+kept-one k t r cs i h past next l e =
+    next (l ++ take i cs) (sym (past l e))
+    ∙ ap keeping (append-assoc l (take i cs) (getD cs i 0 ∷ [])
+    ∙ ap (λ (x : List ℕ). l ++ x) (sym (ap (λ (n : ℕ). take n cs) (add-one i) ∙ take-suc cs i 0 h)))
+
+pub kept-all : (k r : Kept) (cs : List ℕ) (i : ℕ) → i ≡ length cs → Keeping k (λ l. r ≡ keeping (l ++ take i cs))
+    → Keeping k (λ l. r ≡ keeping (l ++ cs))
+kept-all k r cs i n past l e =
+    past l e ∙ ap (λ (x : List ℕ). keeping (l ++ x)) (ap (λ (j : ℕ). take j cs) n ∙ take-length cs)
 
 -- ---- the line's end: 17 characters tell an over-long line
 

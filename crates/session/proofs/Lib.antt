@@ -6,3 +6,4 @@ mod PrintLaws
 pub mod SessionLaws
 mod LineLaws
 pub mod AfterLaws
+mod StretchLaws

@@ -4,3 +4,4 @@ pub mod Text
 pub mod Kept
 pub mod Session
 pub mod Lines
+pub mod Stretch

@@ -42,6 +42,20 @@ impl Kept {
         }
     }
 
+    // Characters one after another.
+    pub(crate) fn push_all(self, cs: &[u8]) -> Kept
+        ensures { λ r. ⌜ Keeping self (λ l. r ≡ keeping (l ++ now (cs .entry))) ⌝ }
+    {
+        let mut next = self;
+        let mut i = 0;
+        while i < cs.len() {
+            let more = next.push(cs[i]);
+            next = more;
+            i += 1;
+        }
+        next
+    }
+
     // What the line asks, however long it is.
     pub(crate) fn asked(self) -> Asked
         ensures { λ r. ⌜ r ≡ keptAsked self ⌝ }

@@ -14,6 +14,7 @@ ghost use Rattle.session.specs.Lines.{Lines};
 ghost use Rattle.session.specs.Session.{shownByte, shown, buffer, fresh, asks, ended, character, taken, finished};
 ghost use Rattle.session.specs.Session.{Passed, stoodAt, atStart, keptOf, untakenOf, heldBench};
 ghost use Rattle.session.specs.Session.{Told, Answers, Running, Runs};
+ghost use Rattle.session.specs.Stretch.{isMark, stretch, heldStretch, Silent, keepsOf};
 use crate::asked::Asked;
 use crate::kept::Kept;
 use controller::Controller;
@@ -67,6 +68,47 @@ struct Sent {
     controller: Controller,
     length: usize,
     number: u8,
+}
+
+// The session after a stretch of characters, and how many they are.
+pub struct Gathered {
+    pub session: Session,
+    pub count: usize,
+}
+
+// Whether a byte is a line feed or 0D.
+fn is_mark(b: u8) -> bool
+    ensures { λ r. ⌜ r ≡ isMark b ⌝ }
+{
+    if b == FEED {
+        return true;
+    }
+    b == END
+}
+
+// How many bytes stand before the first of them.
+fn before_mark(bytes: &[u8]) -> usize
+    ensures { λ r. ⌜ r ≡ length (stretch (now (bytes .entry))) ⌝ }
+{
+    let mut i = 0;
+    while i < bytes.len() {
+        if is_mark(bytes[i]) {
+            return i;
+        }
+        i += 1;
+    }
+    i
+}
+
+// Whether a line whose next character is b begins with T.
+fn keeps(place: Place, b: u8) -> bool
+    ensures { λ r. ⌜ r ≡ keepsOf place b ⌝ }
+{
+    match place {
+        Place::Start => b == LETTER,
+        Place::Sending => false,
+        Place::Asking => true,
+    }
 }
 
 // A byte of a reply as it is printed.
@@ -249,6 +291,38 @@ impl Session {
                 stand(sent, Place::Sending)
             }
         }
+    }
+
+    // The bytes before the first line feed or 0D, at once: the same as `take` of each. They print nothing, so that no
+    // buffer is lent.
+    pub fn gather(self, bytes: &[u8]) -> Gathered
+        requires { ⌜ Running self ⌝ }
+        ensures { λ r. ⌜ Runs self (λ x. r ≡ heldStretch x (now (bytes .entry))) ⌝ }
+        ensures { λ _. ⌜ Runs self (λ x. Silent x (now (bytes .entry))) ⌝ }
+        ensures { λ r. ⌜ Running (r .session) ⌝ }
+    {
+        let count = before_mark(bytes);
+        let mut controller = self.controller;
+        let mut kept = self.kept;
+        let mut place = self.place;
+        if 0 < count {
+            if keeps(place, bytes[0]) {
+                let more = kept.push_all(&bytes[..count]);
+                kept = more;
+                place = Place::Asking;
+            } else {
+                let gathered = controller.gather(&bytes[..count]);
+                let next = gathered.controller;
+                controller = next;
+                place = Place::Sending;
+            }
+        }
+        let session = Session {
+            controller,
+            kept,
+            place,
+        };
+        Gathered { session, count }
     }
 
     // A buffer under 120 bytes: nothing is altered or printed.

@@ -1,0 +1,237 @@
+-- A stretch of characters, none of which is a line feed or 0D: what the bench is after them, and that they print nothing.
+-- Assumes nothing.
+use Prim.Native.Nat.{ℕ, _<_}
+use native.Mathlib.Omega.{arith}
+use mathlib.Core.Bool.{Bool, true, false, _||_}
+use mathlib.Core.List.{List, [], _∷_, _++_, append-nil}
+use mathlib.Core.Path.{_≡_, refl, sym, ap, subst, _∙_}
+use lib.Dec.{eqb}
+use lib.ListN.{length, getD, take}
+use lib.Seq.{append-snoc}
+use Rattle.laws.proofs.Pick.{on-true, on-false, by-bool}
+use Rattle.receiver.specs.Receiver.{before, beforeEnd}
+use Rattle.receiver.proofs.Laws.{before-take}
+use Rattle.machine.specs.State.{Machine}
+use Rattle.machine.specs.Steps as steps
+use Rattle.machine.specs.Steps.{byteStep}
+use Rattle.machine.specs.Calls.{Call, byte, Origin, given, run, state, from, bytes}
+use Rattle.machine.proofs.RunLaws.{true-false}
+use Rattle.controller.specs.declared.Gathered as controller
+use Rattle.controller.specs.Held.{held, heldGathered}
+use Rattle.controller.specs.Reach.{Made}
+use Rattle.controller.proofs.GatherLaws.{character, run-on}
+use Rattle.session.specs.declared.kept.Kept.{Kept}
+use Rattle.session.specs.declared.Place.the-variants.{Start, Sending, Asking}
+use Rattle.session.specs.declared.Session.{Session}
+use Rattle.session.specs.Kept.{keeping, Keeping}
+use Rattle.session.specs.Session.{
+  Place,
+  starting,
+  sending,
+  asking,
+  Bench,
+  Answer,
+  shown,
+  buffer,
+  sends,
+  keeps,
+  ended,
+  characterAt,
+  taken,
+  heldPlace,
+  keptIn,
+  heldBench,
+  Running,
+  Runs,
+}
+use Rattle.session.specs.Lines.{prints, after}
+use Rattle.session.specs.Stretch.{isMark, stretch, heldStretch, Silent, keepsOf}
+use Rattle.session.proofs.SessionLaws.{rests-lives, lives-running}
+use Rattle.session.proofs.AfterLaws.{after-lives}
+
+-- ---- A byte that is neither
+
+or-left : (a b : Bool) → a || b ≡ false → a ≡ false
+or-left true b e = e
+or-left false b e = refl
+
+or-right : (a b : Bool) → a || b ≡ false → b ≡ false
+or-right true b e = true-false true refl e
+or-right false b e = e
+
+module _ (b : ℕ) (e : isMark b ≡ false) where
+  no-end : eqb b 13 ≡ false
+  no-end = or-right (eqb b 10) (eqb b 13) e
+
+  passes : (m : Machine) (p : Place) → taken (record { machine = m; place = p }) b ≡ characterAt m p b
+  passes m p =
+      sym (on-false (eqb b 10) (characterAt m p b) (ended (record { machine = m; place = p })) (characterAt m p b)
+      (or-left (eqb b 10) (eqb b 13) e) refl)
+
+  sends-nothing : (m : Machine) (p : Place) → sends m b p .printed ≡ []
+  sends-nothing m p = ap (λ (a : steps.ByteAnswer). shown (a .reply)) (character m b no-end)
+
+  prints-nothing : (m : Machine) (p : Place) → characterAt m p b .printed ≡ []
+  prints-nothing m starting =
+      by-bool (λ (a : Answer). a .printed ≡ []) (eqb b 84) (keeps m (b ∷ [])) (sends m b sending) (λ q. refl)
+      (λ q. sends-nothing m sending)
+  prints-nothing m sending = sends-nothing m sending
+  prints-nothing m (asking l) = refl
+
+-- ---- All of them
+
+pub prints-on : (bs : List ℕ) (x : Bench) (rest : List ℕ)
+    → prints x (stretch bs ++ rest) ≡ prints (after x (stretch bs)) rest
+unfolding before after prints
+prints-on [] x rest = refl
+prints-on (b ∷ bs) x rest =
+    by-bool (λ (s : List ℕ). prints x (s ++ rest) ≡ prints (after x s) rest) (isMark b) [] (b ∷ stretch bs)
+    (λ e. refl)
+    (λ e. ap (λ (l : List ℕ). l ++ prints (taken x b .bench) (stretch bs ++ rest))
+    (ap (λ (a : Answer). a .printed) (passes b e (x .machine) (x .place))
+    ∙ prints-nothing b e (x .machine) (x .place))
+    ∙ prints-on bs (taken x b .bench) rest)
+
+-- None of them ends a line that goes in.
+pub stretch-sent : (bs : List ℕ) → beforeEnd (stretch bs) ≡ stretch bs
+unfolding before
+stretch-sent [] = refl
+stretch-sent (b ∷ bs) =
+    by-bool (λ (s : List ℕ). beforeEnd s ≡ s) (isMark b) [] (b ∷ stretch bs) (λ e. refl)
+    (λ e. sym (on-false (eqb b 13) (b ∷ beforeEnd (stretch bs)) [] (b ∷ beforeEnd (stretch bs)) (no-end b e) refl)
+    ∙ ap (λ (s : List ℕ). b ∷ s) (stretch-sent bs))
+
+-- In a line whose characters go in.
+sent-on : (o : Origin) (bs : List ℕ) (h : List Call)
+    → after (record { machine = run o h; place = sending }) (stretch bs)
+    ≡ record { machine = run o (bytes (stretch bs) h); place = sending }
+unfolding before after
+sent-on o [] h = refl
+sent-on o (b ∷ bs) h =
+    by-bool (λ (s : List ℕ). after (record { machine = run o h; place = sending }) s
+    ≡ record { machine = run o (bytes s h); place = sending }) (isMark b) [] (b ∷ stretch bs)
+    (λ e. refl)
+    (λ e. ap (λ (a : Answer). after (a .bench) (stretch bs)) (passes b e (run o h) sending)
+    ∙ (ap (λ (m : Machine). after (record { machine = m; place = sending }) (stretch bs))
+    (sym (run-on o (byte b buffer) h))
+    ∙ sent-on o bs (byte b buffer ∷ h)))
+
+-- In a line that begins with T.
+kept-on : (m : Machine) (bs l : List ℕ)
+    → after (record { machine = m; place = asking l }) (stretch bs)
+    ≡ record { machine = m; place = asking (l ++ stretch bs) }
+unfolding before after
+kept-on m [] l = ap (λ (k : List ℕ). record { machine = m; place = asking k }) (sym (append-nil l))
+kept-on m (b ∷ bs) l =
+    by-bool (λ (s : List ℕ). after (record { machine = m; place = asking l }) s
+    ≡ record { machine = m; place = asking (l ++ s) }) (isMark b) [] (b ∷ stretch bs)
+    (λ e. ap (λ (k : List ℕ). record { machine = m; place = asking k }) (sym (append-nil l)))
+    (λ e. ap (λ (a : Answer). after (a .bench) (stretch bs)) (passes b e m (asking l))
+    ∙ (kept-on m bs (l ++ (b ∷ []))
+    ∙ ap (λ (k : List ℕ). record { machine = m; place = asking k }) (append-snoc l b (stretch bs))))
+
+-- ---- From any place on
+
+module _ (m : Machine) where
+  pub sends-on : (p : Place) (bs : List ℕ) → 0 < length (stretch bs) → keepsOf (heldPlace p) (getD bs 0 0) ≡ false
+      → after (record { machine = m; place = p }) (stretch bs)
+      ≡ record { machine = from m (bytes (stretch bs) []); place = sending }
+  unfolding before after run
+  sends-on p [] k q = absurd (omega arith)
+  sends-on p (b ∷ bs) k q =
+      by-bool (λ (s : List ℕ). 0 < length s → after (record { machine = m; place = p }) s
+      ≡ record { machine = from m (bytes s []); place = sending }) (isMark b) [] (b ∷ stretch bs)
+      (λ e n. absurd (omega arith))
+      (λ e n. ap (λ (a : Answer). after (a .bench) (stretch bs)) (passes b e m p ∙ goes p q)
+      ∙ sent-on (given m) bs (byte b buffer ∷ [])) k
+    where
+      goes : (p : Place) → keepsOf (heldPlace p) b ≡ false → characterAt m p b ≡ sends m b sending
+      goes starting z = sym (on-false (eqb b 84) (sends m b sending) (keeps m (b ∷ [])) (sends m b sending) z refl)
+      goes sending z = refl
+      goes (asking l) z = true-false true refl z
+
+  pub keeps-on : (p : Place) (bs : List ℕ) → 0 < length (stretch bs) → keepsOf (heldPlace p) (getD bs 0 0) ≡ true
+      → after (record { machine = m; place = p }) (stretch bs)
+      ≡ record { machine = m; place = asking (keptIn p ++ stretch bs) }
+  unfolding before after
+  keeps-on p [] k q = absurd (omega arith)
+  keeps-on p (b ∷ bs) k q =
+      by-bool (λ (s : List ℕ). 0 < length s → after (record { machine = m; place = p }) s
+      ≡ record { machine = m; place = asking (keptIn p ++ s) }) (isMark b) [] (b ∷ stretch bs)
+      (λ e n. absurd (omega arith))
+      (λ e n. ap (λ (a : Answer). after (a .bench) (stretch bs)) (passes b e m p ∙ stays p q)
+      ∙ (kept-on m bs (keptIn p ++ (b ∷ []))
+      ∙ ap (λ (l : List ℕ). record { machine = m; place = asking l }) (append-snoc (keptIn p) b (stretch bs)))) k
+    where
+      stays : (p : Place) → keepsOf (heldPlace p) b ≡ true → characterAt m p b ≡ keeps m (keptIn p ++ (b ∷ []))
+      stays starting z = sym (on-true (eqb b 84) (keeps m (b ∷ [])) (keeps m (b ∷ [])) (sends m b sending) z refl)
+      stays sending z = true-false false z refl
+      stays (asking l) z = refl
+
+-- Nothing is kept of a line whose characters go in.
+pub none-kept : (p : Place) (b : ℕ) → keepsOf (heldPlace p) b ≡ false → keptIn p ≡ []
+none-kept starting b z = refl
+none-kept sending b z = refl
+none-kept (asking l) b z = true-false true refl z
+
+-- ---- What is held of it
+
+nothing : (l : List ℕ) → length l ≡ 0 → l ≡ []
+nothing [] e = refl
+nothing (b ∷ l) e = absurd (omega arith)
+
+module _ (s : Session) (bs : List ℕ) where
+  module _ (n : ℕ) (k : n ≡ length (stretch bs)) where
+    -- No character.
+    pub none-gathered : n ≡ 0 → Runs s (λ x. s ≡ heldBench (after x (stretch bs)))
+    unfolding after
+    none-gathered z w h p e =
+        sym e ∙ ap (λ (l : List ℕ). heldBench (after (record { machine = state w h; place = p }) l))
+        (sym (nothing (stretch bs) (sym k ∙ z)))
+
+    -- Of a line that begins with T.
+    pub kept-gathered : (t : Bool) (more : Kept) → t ≡ keepsOf (s .place) (getD bs 0 0) → t ≡ true → 0 < n
+        → Keeping (s .kept) (λ l. more ≡ keeping (l ++ take n bs))
+        → Runs s (λ x. record { controller = s .controller; kept = more; place = Asking }
+        ≡ heldBench (after x (stretch bs)))
+    kept-gathered t more q y z r w h p e =
+        (λ i. record {
+          controller = sym (ap (λ (x : Session). x .controller) e) i;
+          kept = (r (keptIn p) (ap (λ (x : Session). x .kept) e)
+              ∙ ap (λ (l : List ℕ). keeping (keptIn p ++ l)) (ap (λ (j : ℕ). take j bs) k ∙ before-take isMark bs)) i;
+          place = Asking;
+        })
+        ∙ ap heldBench (sym (keeps-on (state w h) p bs (omega (arith, k))
+        (ap (λ (x : Session). keepsOf (x .place) (getD bs 0 0)) e ∙ (sym q ∙ y))))
+
+    -- Of any other line.
+    pub sent-gathered : (t : Bool) (g : controller.Gathered) → t ≡ keepsOf (s .place) (getD bs 0 0) → t ≡ false → 0 < n
+        → Made (s .controller) (λ m. g ≡ heldGathered m (take n bs))
+        → Runs s (λ x. record { controller = g .controller; kept = s .kept; place = Sending }
+        ≡ heldBench (after x (stretch bs)))
+    sent-gathered t g q y z r w h p e =
+        let v : keepsOf (heldPlace p) (getD bs 0 0) ≡ false =
+        ap (λ (x : Session). keepsOf (x .place) (getD bs 0 0)) e ∙ (sym q ∙ y) in
+        (λ i. record {
+          controller = (ap (λ (x : controller.Gathered). x .controller)
+              (r w h (ap (λ (x : Session). x .controller) e))
+              ∙ ap (λ (l : List ℕ). held (from (state w h) (bytes l [])))
+              (ap beforeEnd (ap (λ (j : ℕ). take j bs) k ∙ before-take isMark bs) ∙ stretch-sent bs)) i;
+          kept = (sym (ap (λ (x : Session). x .kept) e)
+              ∙ ap keeping (none-kept p (getD bs 0 0) v)) i;
+          place = Sending;
+        })
+        ∙ ap heldBench (sym (sends-on (state w h) p bs (omega (arith, k)) v))
+
+    -- All that `gather` promises.
+    pub gathered-told : (t : Session) → Running s → Runs s (λ x. t ≡ heldBench (after x (stretch bs)))
+        → Runs s (λ x. record { session = t; count = n } ≡ heldStretch x bs)
+        × (Runs s (λ x. Silent x bs) × Running t)
+    gathered-told t r q = (
+      (λ w h p e i. record { session = q w h p e i; count = k i }),
+      (
+        (λ w h p e rest. prints-on bs (record { machine = state w h; place = p }) rest),
+        subst Running (sym (q (r .switch) (r .history) (r .place) (r .made)))
+            (lives-running _ (after-lives (stretch bs) _ (rests-lives (r .switch) (r .history) (r .place)))),
+      ),
+    )

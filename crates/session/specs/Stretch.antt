@@ -1,0 +1,35 @@
+-- A stretch of characters, taken at once: the same as each of them by itself.
+use Prim.Native.Nat.{ℕ}
+use mathlib.Core.Bool.{Bool, true, false, _||_}
+use mathlib.Core.List.{List, _++_}
+use mathlib.Core.Path.{_≡_}
+use lib.Dec.{eqb}
+use lib.ListN.{length}
+use Rattle.receiver.specs.Receiver.{before}
+use Rattle.session.specs.declared.Gathered.{Gathered}
+use Rattle.session.specs.declared.Place.{Place}
+use Rattle.session.specs.declared.Place.the-variants.{Start, Sending, Asking}
+use Rattle.session.specs.Session.{Bench, heldBench}
+use Rattle.session.specs.Lines.{prints, after}
+
+-- A line feed or 0D.
+abbrev pub isMark : ℕ → Bool
+isMark b = eqb b 10 || eqb b 13
+
+-- The bytes before the first of them.
+abbrev pub stretch : List ℕ → List ℕ
+stretch bs = before isMark bs
+
+-- The bench after these, and how many they are.
+abbrev pub heldStretch : Bench → List ℕ → Gathered
+heldStretch x bs = record { session = heldBench (after x (stretch bs)); count = length (stretch bs) }
+
+-- They print nothing: whatever comes after them, all that is printed is what the bench after them prints.
+abbrev pub Silent : Bench → List ℕ → Type 0
+Silent x bs = (rest : List ℕ) → prints x (stretch bs ++ rest) ≡ prints (after x (stretch bs)) rest
+
+-- ---- On what is held: whether a line whose next character is b is kept.
+abbrev pub keepsOf : Place → ℕ → Bool
+keepsOf Start b = eqb b 84
+keepsOf Sending b = false
+keepsOf Asking b = true
