@@ -52,8 +52,8 @@ abbrev pub firstOf : List Rule → ℕ
 firstOf [] = 0
 firstOf (r ∷ rs) = cond (r .applies) (r .number) (firstOf rs)
 
--- What a row of the table says: that the code is listed, that it takes this many digits, that its value is in range, and
--- what it asks for.
+-- What a row of the table says: that the code is listed, that it takes this many digits, that its value is in range,
+-- and what it asks for.
 abbrev pub isListed : Row → Bool
 isListed Unlisted = false
 isListed (Listed least c) = true

@@ -53,7 +53,8 @@ use Rattle.machine.specs.Demand.{ShareLaw, Answer, Ended, Demand3}
 use Rattle.machine.proofs.BitLaws.{status-moving}
 use Rattle.machine.proofs.ShareLaws.{Share, share-none}
 use Rattle.machine.proofs.RunLaws.{Good, Whole}
-use Rattle.machine.proofs.CallLaws.{Called, called}
+use Rattle.machine.proofs.CalledLaws.{Called}
+use Rattle.machine.proofs.CallLaws.{called}
 use Rattle.machine.proofs.PauseLaws.{pause-next, dwell-next}
 use Rattle.machine.proofs.FitLaws.{fits}
 

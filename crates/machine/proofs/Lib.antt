@@ -3,8 +3,17 @@ pub mod UnalteredLaws
 pub mod ShareLaws
 pub mod RunLaws
 pub mod PositionLaws
+pub mod CalledLaws
+pub mod ReadyLaws
+pub mod EffectLaws
+pub mod LineLaws
+pub mod LookLaws
 pub mod CallLaws
 pub mod PauseLaws
+pub mod Fits
+pub mod FitStageLaws
+pub mod FitRunLaws
+pub mod FitLineLaws
 pub mod FitLaws
 pub mod DemandLaws
 pub mod MarkedLaws

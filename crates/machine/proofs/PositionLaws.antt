@@ -1,11 +1,11 @@
 -- Positions in range, held with 524,288 added: what steps in a direction do to them. Assumes nothing.
 use Prim.Native.Nat.{ℕ, zero, suc, _+_, _-_, _≤_, _<_}
-use mathlib.Core.Bool.{Bool, true, false}
-use mathlib.Core.Path.{_≡_, refl, sym}
+use mathlib.Core.Bool.{Bool, true, false, cond}
+use mathlib.Core.Path.{_≡_, refl, sym, ap, subst, _∙_}
 use native.Mathlib.Omega.{arith}
 use borrow.Author.Tests.{lt-ltb, le-ltb, ltb-true, ltb-false}
 use lib.Dec.{ltb}
-use lib.IntN.{ℤ, pos, negsuc, negℤ, _+ℤ_}
+use lib.IntN.{ℤ, pos, negsuc, negℤ, _+ℤ_, +ℤ-idr}
 use Rattle.laws.specs.Axes.{directed}
 use Rattle.laws.proofs.Pick.{by-lt}
 use Rattle.reply.specs.Reply.{bias}
@@ -96,3 +96,29 @@ leaves-is false z d h = when (ltb 1048575 (bias z + d)) refl
 pub room-of : (s : Bool) (b d : ℕ) → leaves s b d ≡ false → Room s b d
 room-of true b d h = ltb-false b d h
 room-of false b d h = ltb-false 1048575 (b + d) h
+
+-- One axis at a master pulse: t its travel, n its share.
+pub place-step : (s : Bool) (z : ℤ) (d t n : ℕ) → outside z ≡ false → Room s (bias z) (d - t) → t ≤ n → n ≤ t + 1
+    → n ≤ d
+    → (outside (z +ℤ cond (ltb t n) (directed s 1) (pos 0)) ≡ false)
+    × Room s (bias (z +ℤ cond (ltb t n) (directed s 1) (pos 0))) (d - n)
+place-step s z d t n h r l k b =
+    by-lt (λ (y : ℤ). (outside (z +ℤ y) ≡ false) × Room s (bias (z +ℤ y)) (d - n)) t n _ _
+    (λ q. let w = lies s z 1 h (one s r q) in
+    (w .inside, subst (λ (x : ℕ). Room s x (d - n)) (sym (w .held)) (rest s r q)))
+    (λ q. (
+      ap outside (+ℤ-idr z) ∙ h,
+      subst (λ (x : ℤ). Room s (bias x) (d - n)) (sym (+ℤ-idr z)) (same s r q),
+    ))
+  where
+    one : (b : Bool) → Room b (bias z) (d - t) → t < n → Room b (bias z) 1
+    one true r q = omega arith
+    one false r q = omega arith
+
+    rest : (b : Bool) → Room b (bias z) (d - t) → t < n → Room b (stepped b (bias z) 1) (d - n)
+    rest true r q = omega arith
+    rest false r q = omega arith
+
+    same : (b : Bool) → Room b (bias z) (d - t) → n ≤ t → Room b (bias z) (d - n)
+    same true r q = omega arith
+    same false r q = omega arith

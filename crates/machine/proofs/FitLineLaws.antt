@@ -1,0 +1,155 @@
+-- A received byte keeps a machine in range. Assumes nothing.
+use Prim.Native.Nat.{ℕ, _-_, _≤_, _<_}
+use mathlib.Core.Bool.{Bool, true, false, cond, _&&_}
+use mathlib.Core.List.{List}
+use mathlib.Core.Path.{_≡_, refl, sym, subst}
+use native.Mathlib.Omega.{arith}
+use borrow.Author.Tests.{leb-true, eqb-true}
+use lib.Dec.{ltb, leb, eqb}
+use lib.ListN.{length}
+use Rattle.laws.proofs.Pick.{by-bool, by-eq}
+use Rattle.digits.specs.declared.Ident.{Ident}
+use Rattle.line.specs.declared.command.Command.{Command}
+use Rattle.line.specs.declared.command.Command.the-variants as C
+use Rattle.line.specs.declared.Judged.{Judged}
+use Rattle.line.specs.declared.Judged.the-variants.{Accepted, Refused}
+use Rattle.line.specs.Line.{silentOf, identOf, judgeOf}
+use Rattle.line.specs.Ranges.{settingFits}
+use Rattle.line.specs.Fits.{CommandFits, JudgedFits}
+use Rattle.line.proofs.Ranges.{within, axis, distance, by-code}
+use Rattle.line.proofs.Fits.{judge-fits}
+use Rattle.receiver.specs.Receiver.{Receipt}
+use Rattle.machine.specs.State.{Move, Machine, none, withMove, withSettings, withWatch, withFlags}
+use Rattle.machine.specs.Stops.{stopping, marks}
+use Rattle.machine.specs.Starts.{startNumber, begun, notes}
+use Rattle.machine.specs.Commands.{number, does, stores, drops, keepsStart, obeys}
+use Rattle.machine.specs.Steps.{Outcome, refused, decided, outcomeOf, outcome, answered, heardBy}
+use Rattle.machine.proofs.PositionLaws.{Room}
+use Rattle.machine.proofs.ReadyLaws.{passed, ready}
+use Rattle.machine.proofs.Fits.{SettingsFit, PlanFits, PauseFits, MoveFits, PlacesFit, Fits}
+use Rattle.machine.proofs.FitStageLaws.{fits-begun, fits-stopping}
+
+-- A machine that differs in no part that is kept in range.
+fits-same : (m a : Machine) → Fits m → a .settings ≡ m .settings → a .next ≡ m .next → a .move ≡ m .move
+    → a .position ≡ m .position → a .pause ≡ m .pause → Fits a
+fits-same m a f s n v p q = record {
+  settings = subst SettingsFit (sym s) (f .settings);
+  next = subst PlanFits (sym n) (f .next);
+  move = subst MoveFits (sym v) (f .move);
+  places = subst (λ (x : Move). PlacesFit x (a .position)) (sym v) (subst (PlacesFit (m .move)) (sym p) (f .places));
+  pause = subst PauseFits (sym q) (f .pause);
+}
+
+-- A machine that differs in its settings.
+fits-set : (m a : Machine) → Fits m → SettingsFit (a .settings) → a .next ≡ m .next → a .move ≡ m .move
+    → a .position ≡ m .position → a .pause ≡ m .pause → Fits a
+fits-set m a f s n v p q =
+    let g = fits-same m (withSettings a (m .settings)) f refl n v p q in
+    record { settings = s; next = g .next; move = g .move; places = g .places; pause = g .pause }
+
+reset-room : (s : Bool) (d t : ℕ) → d ≤ 524287 → Room s 524288 (d - t)
+reset-room true d t h = omega arith
+reset-room false d t h = omega arith
+
+free : (b : Bool) → b && true ≡ false → b ≡ false
+free true e = e
+free false e = e
+
+fits-setting : (m : Machine) (b code v : ℕ) → Fits m → settingFits code v ≡ true
+    → Fits (withWatch (does (heardBy m b) (C.Set code v)) 0)
+fits-setting m b code v f h =
+    fits-set m _ f (record {
+      speed = by-eq (λ (x : ℕ). x ≤ 1000000) code 8 _ _ (λ q. within v 1 1000000 (rw q at h) .1)
+          (λ _. f .settings .speed);
+      slope = by-eq (λ (x : ℕ). x ≤ 4095) code 9 _ _ (λ q. within v 1 4095 (rw q at h) .1) (λ _. f .settings .slope);
+      dwell = by-eq (λ (x : ℕ). x ≤ 16383) code 10 _ _ (λ q. leb-true v 16383 (rw q at h)) (λ _. f .settings .dwell);
+    }) refl refl refl refl
+
+fits-starting : (m : Machine) (b k : ℕ) (w : Bool) → Fits m → k < 5 → number m (C.Start k w) ≡ 0
+    → Fits (withWatch (does (heardBy m b) (C.Start k w)) 0)
+fits-starting m b k w f h e = when (stores m w) refl
+  where
+    p11 : (m .move .moving && true ≡ false) × (cond (stores m w) 0 (startNumber m k) ≡ 0)
+    p11 = passed (m .move .moving && true) 11 _ (omega arith) e
+
+    when : (t : Bool) → stores m w ≡ t
+        → Fits (withWatch (cond t (keepsStart (heardBy m b) k)
+        (begun (heardBy m b) k)) 0)
+    when true q = record {
+      settings = f .settings;
+      next = f .next;
+      move = f .move;
+      places = f .places;
+      pause = record { left = f .pause .left; waiting = h };
+    }
+    when false q =
+        let g = fits-begun m k f h (ready m k (subst (λ (t : Bool). cond t 0 (startNumber m k) ≡ 0) q (p11 .1))) in
+        record { settings = g .settings; next = g .next; move = g .move; places = g .places; pause = g .pause }
+
+fits-stop : (m : Machine) (b : ℕ) → Fits m → Fits (withWatch (obeys (heardBy m b) 9) 0)
+fits-stop m b f = when (m .move .moving)
+  where
+    dropped : PauseFits (record { left = m .pause .left; waiting = none })
+    dropped = record { left = f .pause .left; waiting = omega arith }
+
+    when : (t : Bool) → Fits (withWatch (drops (cond t
+        (withFlags (withMove (heardBy m b) (stopping (m .move))) (marks (m .flags) true false)) (heardBy m b))) 0)
+    when true = fits-stopping m _ f refl refl refl refl dropped
+    when false = record { settings = f .settings; next = f .next; move = f .move; places = f .places; pause = dropped }
+
+fits-order : (m : Machine) (b code : ℕ) → Fits m → Fits (withWatch (obeys (heardBy m b) code) 0)
+fits-order m b code f =
+    by-code (λ (k : ℕ). Fits (withWatch (obeys (heardBy m b) k) 0)) (fits-stop m b f)
+    (fits-same m _ f refl refl refl refl refl)
+    (record {
+      settings = f .settings;
+      next = f .next;
+      move = f .move;
+      places = record {
+        inside = λ k l. refl;
+        room = λ q k l. reset-room (m .move .plan .minus k) (m .move .plan .distance k) (m .move .travel k)
+            (f .move .plan k l);
+      };
+      pause = f .pause;
+    })
+    (λ k p q r. rw (p, q, r) (fits-same m _ f refl refl refl refl refl)) code
+
+pub fits-does : (m : Machine) (b : ℕ) (c : Command) → Fits m → CommandFits c → number m c ≡ 0
+    → Fits (withWatch (does (heardBy m b) c) 0)
+fits-does m b (C.Distance k s d) f h e = record {
+  settings = f .settings;
+  next = λ j l. by-bool (λ (x : ℕ). x ≤ 524287) (eqb j k) _ _ (λ q. let r = distance k s d h .1 in omega (arith, r))
+      (λ q. f .next j l);
+  move = f .move;
+  places = f .places;
+  pause = f .pause;
+}
+fits-does m b (C.Set code v) f h e = fits-setting m b code v f h
+fits-does m b (C.Start k w) f h e = fits-starting m b k w f (axis k h) e
+fits-does m b (C.Order code) f h e = fits-order m b code f
+fits-does m b (C.Outputs v) f h e = fits-same m _ f refl refl refl refl refl
+fits-does m b (C.Read r) f h e = fits-same m _ f refl refl refl refl refl
+
+fits-refused : (m : Machine) (b n : ℕ) (silent : Bool) (ident : Ident) → Fits m
+    → Fits (answered m b (refused n silent ident) .machine)
+fits-refused m b n silent ident f = when (leb 10 n)
+  where
+    when : (t : Bool) → Fits (cond t (notes (withWatch (heardBy m b) 0) n) (heardBy m b))
+    when true = fits-same m _ f refl refl refl refl refl
+    when false = fits-same m _ f refl refl refl refl refl
+
+fits-decided : (m : Machine) (b : ℕ) (silent : Bool) (ident : Ident) (j : Judged) → Fits m → JudgedFits j
+    → Fits (answered m b (decided m silent ident j) .machine)
+fits-decided m b silent ident (Refused n) f h = fits-refused m b n silent ident f
+fits-decided m b silent ident (Accepted c digits) f h =
+    by-bool (λ (o : Outcome). Fits (answered m b o .machine)) (eqb (number m c) 0) _ _
+    (λ e. fits-does m b c f (h .command) (eqb-true (number m c) 0 e))
+    (λ e. fits-refused m b (number m c) silent ident f)
+
+pub fits-byte : (m : Machine) (b : ℕ) (buffer : List ℕ) → Fits m → Fits (answered m b (outcome m b buffer) .machine)
+fits-byte m b buffer f =
+    by-bool (λ (o : Outcome). Fits (answered m b o .machine)) (ltb (length buffer) 120) _ _
+    (λ e. f)
+    (λ e. by-bool (λ (r : Receipt). Fits (answered m b (outcomeOf m (r .heard)) .machine)) (eqb b 13) _ _
+    (λ q. fits-decided m b (silentOf (m .line)) (identOf (m .line)) (judgeOf (m .line)) f (judge-fits (m .line)))
+    (λ q. fits-same m _ f refl refl refl refl refl))

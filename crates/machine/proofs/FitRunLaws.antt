@@ -1,0 +1,168 @@
+-- Ramp and pulses keep a machine in range. Assumes nothing.
+use Prim.Native.Nat.{ℕ, _+_, _-_, _*_, _≤_, _<_}
+use mathlib.Core.Bool.{Bool, true, false, cond, not, _&&_}
+use mathlib.Core.Path.{_≡_, refl, sym, subst}
+use native.Mathlib.Omega.{arith}
+use native.Mathlib.Nat.{div-le-of-le-mul, mul-le-mul-right, min-le-right, max-le}
+use borrow.Author.Tests.{eqb-true, eqb-false, not-false}
+use lib.Dec.{leb, eqb}
+use lib.IntN.{ℤ, _+ℤ_}
+use Rattle.laws.proofs.Tests.{true-false}
+use Rattle.laws.proofs.Pick.{by-bool, by-lt, by-le}
+use Rattle.reply.specs.Reply.{bias}
+use Rattle.machine.specs.State.{Settings, Move, Machine}
+use Rattle.machine.specs.Shares.{whole, gone, share, pulse}
+use Rattle.machine.specs.Ramp.{
+  Ran,
+  full,
+  remaining,
+  braked,
+  towards,
+  ramped,
+  atRest,
+  ended,
+  stepped,
+  pulsed,
+  advanced,
+  runs,
+}
+use Rattle.machine.specs.Starts.{outside}
+use Rattle.machine.proofs.ShareLaws.{share-grows, share-once}
+use Rattle.machine.proofs.RunLaws.{Good, step-pulse, runs-step, runs-end}
+use Rattle.machine.proofs.PositionLaws.{Room, place-step}
+use Rattle.machine.proofs.Fits.{SettingsFit, MoveFits, Fits}
+
+pub braked-small : (u a : ℕ) → u ≤ full → braked u a ≤ full
+braked-small u a h =
+    by-le (λ (x : ℕ). x ≤ full) u a _ _ (λ q. h) (λ q. max-le (omega arith) (omega arith))
+
+pub towards-small : (u target a : ℕ) → u ≤ full → target ≤ full → towards u target a ≤ full
+towards-small u target a h k =
+    by-le (λ (x : ℕ). x ≤ full) u target _ _
+    (λ q. let l = min-le-right (u + a) target in omega (arith, l)) (λ q. max-le (omega arith) k)
+
+pub ramped-small : (s : Settings) (v : Move) → SettingsFit s → v .speed ≤ full → ramped s v ≤ full
+ramped-small s v f h =
+    by-bool (λ (x : ℕ). x ≤ full) (v .stopping) _ _ (λ q. omega arith)
+    (λ q. by-bool (λ (x : ℕ). x ≤ full) (leb (2 * s .slope * remaining v) (v .speed * v .speed)) _ _
+    (λ e. braked-small (v .speed) (s .slope) h)
+    (λ e. towards-small (v .speed) (50 * s .speed) (s .slope) h (let k = f .speed in omega (arith, k))))
+
+at-rest : (v : Move) → MoveFits v → MoveFits (atRest v)
+at-rest v f = record {
+  good = record { axis = f .good .axis; under = λ q. true-false false q refl };
+  plan = f .plan;
+  master = f .master;
+  speed = omega arith;
+  phase = omega arith;
+  within = f .within;
+}
+
+pub fits-ended : (m : Machine) → Fits m → Fits (ended m)
+fits-ended m f = record {
+  settings = f .settings;
+  next = f .next;
+  move = at-rest (m .move) (f .move);
+  places = record { inside = f .places .inside; room = λ q. true-false false q refl };
+  pause = record {
+    left = let q = f .settings .dwell in omega (arith, q);
+    waiting = f .pause .waiting;
+  };
+}
+
+module _ (m : Machine) (f : Fits m) (e : m .move .moving ≡ true) where
+  above : 0 < whole (m .move)
+  above = let h = f .move .good .under e in omega (arith, h)
+
+  -- No share passes its distance.
+  share-short : (k : ℕ) → share (m .move) (gone (m .move) + 1) k ≤ m .move .plan .distance k
+  share-short k =
+      div-le-of-le-mul (whole (m .move)) (mul-le-mul-right (m .move .plan .distance k)
+      (let h = f .move .good .under e in omega (arith, h)))
+
+  pub place : (k : ℕ) → k < 5
+      → (outside (m .position k +ℤ pulse (m .move) (gone (m .move) + 1) k) ≡ false)
+      × Room (m .move .plan .minus k) (bias (m .position k +ℤ pulse (m .move) (gone (m .move) + 1) k))
+      (m .move .plan .distance k - share (m .move) (gone (m .move) + 1) k)
+  place k h =
+      subst (λ (y : ℤ). (outside (m .position k +ℤ y) ≡ false)
+      × Room (m .move .plan .minus k) (bias (m .position k +ℤ y))
+      (m .move .plan .distance k - share (m .move) (gone (m .move) + 1) k))
+      (sym (step-pulse m (f .move .good) e k h))
+      (place-step (m .move .plan .minus k) (m .position k) (m .move .plan .distance k) (m .move .travel k)
+      (share (m .move) (gone (m .move) + 1) k) (f .places .inside k h) (f .places .room e k h)
+      (share-grows _ _ _ _ above (f .move .good .axis k h)) (share-once _ _ _ _ above (f .move .good .axis k h))
+      (share-short k))
+
+  fits-stepped : (u phase : ℕ) → u ≤ full → phase < full
+      → Good (stepped m u phase (gone (m .move) + 1) .move) → Fits (stepped m u phase (gone (m .move) + 1))
+  fits-stepped u phase h l g = record {
+    settings = f .settings;
+    next = f .next;
+    move = record {
+      good = g;
+      plan = f .move .plan;
+      master = f .move .master;
+      speed = h;
+      phase = l;
+      within = λ k q. share-short k;
+    };
+    places = record { inside = λ k q. place k q .0; room = λ r k q. place k q .1 };
+    pause = f .pause;
+  }
+
+  fits-pulsed : (u phase : ℕ) → u ≤ full → phase < full → Fits (pulsed m u phase (gone (m .move) + 1) .machine)
+  fits-pulsed u phase h l = when (eqb (gone (m .move) + 1) (whole (m .move))) refl
+    where
+      when : (b : Bool) → eqb (gone (m .move) + 1) (whole (m .move)) ≡ b
+          → Fits (cond b (ended (stepped m u phase (gone (m .move) + 1))) (stepped m u phase (gone (m .move) + 1)))
+      when true q =
+          let g = runs-end m (f .move .good) e u phase (eqb-true (gone (m .move) + 1) (whole (m .move)) q) .good in
+          record {
+            settings = f .settings;
+            next = f .next;
+            move = record {
+              good = g;
+              plan = f .move .plan;
+              master = f .move .master;
+              speed = omega arith;
+              phase = omega arith;
+              within = λ k r. share-short k;
+            };
+            places = record { inside = λ k r. place k r .0; room = λ r. true-false false r refl };
+            pause = record {
+              left = let r = f .settings .dwell in omega (arith, r);
+              waiting = f .pause .waiting;
+            };
+          }
+      when false q =
+          fits-stepped u phase h l
+          (runs-step m (f .move .good) e u phase (eqb-false (gone (m .move) + 1) (whole (m .move)) q) .good)
+
+  fits-advanced : (u grown : ℕ) → u ≤ full → grown ≤ m .move .phase + u → Fits (advanced m u grown .machine)
+  fits-advanced u grown h l =
+      by-lt (λ (r : Ran). Fits (r .machine)) grown full _ _
+      (λ q. record {
+        settings = f .settings;
+        next = f .next;
+        move = record {
+          good = record { axis = f .move .good .axis; under = f .move .good .under };
+          plan = f .move .plan;
+          master = f .move .master;
+          speed = h;
+          phase = q;
+          within = f .move .within;
+        };
+        places = record { inside = f .places .inside; room = f .places .room };
+        pause = f .pause;
+      })
+      (λ q. fits-pulsed u (grown - full) h (let r = f .move .phase in omega (arith, r)))
+
+pub fits-runs : (m : Machine) → Fits m → Fits (runs m .machine)
+fits-runs m f =
+    by-bool (λ (r : Ran). Fits (r .machine)) (not (m .move .moving)) _ _ (λ q. f)
+    (λ q. by-bool (λ (r : Ran). Fits (r .machine)) (m .move .stopping && leb (m .move .speed) (m .settings .slope)) _ _
+    (λ s. fits-ended m f)
+    (λ s. fits-advanced m f (not-false (m .move .moving) q) (ramped (m .settings) (m .move))
+    (m .move .phase + ramped (m .settings) (m .move))
+    (ramped-small (m .settings) (m .move) (f .settings) (f .move .speed)) (omega arith)))

@@ -1,0 +1,61 @@
+-- What a start that no number of 12 to 17 turns away has. Assumes nothing.
+use Prim.Native.Nat.{ℕ, _≤_, _<_}
+use mathlib.Core.Bool.{Bool, true, false, cond, _||_}
+use mathlib.Core.Path.{_≡_, refl}
+use native.Mathlib.Omega.{arith}
+use borrow.Author.Tests.{eqb-false, ltb-false}
+use lib.Dec.{ltb, eqb}
+use Rattle.laws.proofs.Tests.{true-false}
+use Rattle.laws.specs.Axes.{some}
+use Rattle.laws.proofs.Five.{five}
+use Rattle.machine.specs.State.{Machine}
+use Rattle.machine.specs.Stops.{sensorActive, blocked}
+use Rattle.machine.specs.Starts.{startNumber, newMove, outside, final}
+use Rattle.machine.proofs.ShareLaws.{share-none}
+use Rattle.machine.proofs.RunLaws.{Good}
+
+pub passed : (t : Bool) (n x : ℕ) → 0 < n → cond t n x ≡ 0 → (t ≡ false) × (x ≡ 0)
+passed true n x h e = absurd (omega (arith, e))
+passed false n x h e = (refl, e)
+
+or-none : (a b : Bool) → a || b ≡ false → (a ≡ false) × (b ≡ false)
+or-none true b e = true-false true refl e
+or-none false b e = (refl, e)
+
+pub none-of : (f : ℕ → Bool) → some f ≡ false → (k : ℕ) → k < 5 → f k ≡ false
+none-of f e k h =
+    let a = or-none (f 0 || f 1 || f 2 || f 3) (f 4) e in
+    let b = or-none (f 0 || f 1 || f 2) (f 3) (a .0) in
+    let c = or-none (f 0 || f 1) (f 2) (b .0) in
+    let d = or-none (f 0) (f 1) (c .0) in
+    five (λ (j : ℕ). f j ≡ false) (d .0) (d .1) (c .1) (b .1) (a .1) k h
+
+-- What no number of 12 to 17 turns away.
+pub record Ready (m : Machine) (k : ℕ) : Type 0 where
+  pub positive : 0 < m .next .distance k
+  pub longest : (j : ℕ) → j < 5 → m .next .distance j ≤ m .next .distance k
+  pub inside : (j : ℕ) → j < 5 → outside (final m j) ≡ false
+
+pub ready : (m : Machine) (k : ℕ) → startNumber m k ≡ 0 → Ready m k
+ready m k e =
+    let p12 = passed (m .flags .emergency) 12 _ (omega arith) e in
+    let p13 = passed (sensorActive m) 13 _ (omega arith) (p12 .1) in
+    let p14 = passed (some (λ j. ltb (m .next .distance k) (m .next .distance j))) 14 _ (omega arith) (p13 .1) in
+    let p15 = passed (eqb (m .next .distance k) 0) 15 _ (omega arith) (p14 .1) in
+    let p16 = passed (blocked m (m .next)) 16 _ (omega arith) (p15 .1) in
+    let p17 = passed (some (λ j. outside (final m j))) 17 _ (omega arith) (p16 .1) in
+    record {
+      positive = above (p15 .0);
+      longest = λ j h. ltb-false (m .next .distance k) (m .next .distance j)
+          (none-of (λ j. ltb (m .next .distance k) (m .next .distance j)) (p14 .0) j h);
+      inside = none-of (λ j. outside (final m j)) (p17 .0);
+    }
+  where
+    above : eqb (m .next .distance k) 0 ≡ false → 0 < m .next .distance k
+    above q = let h : m .next .distance k ≡ 0 → ⊥ = eqb-false (m .next .distance k) 0 q in omega (arith, h)
+
+pub good-new : (m : Machine) (k : ℕ) → Ready m k → Good (newMove (m .next) k)
+good-new m k r = record {
+  axis = λ j h. share-none (m .next .distance j) (m .next .distance k) (r .longest j h);
+  under = λ q. r .positive;
+}
