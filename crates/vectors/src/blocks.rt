@@ -4,7 +4,7 @@ use crate::form;
 use crate::text;
 use crate::text::Text;
 use digits::Ident;
-use reader::Reading;
+use reader::reading::Reading;
 use reply::Position;
 
 // What a position has added.

@@ -9,7 +9,7 @@ use figures::Setting;
 use figures::Units;
 use host::Request;
 use host::Written;
-use line::Command;
+use line::command::Command;
 
 // The largest settings.
 const SPEED_MOST: u32 = 1000000;

@@ -6,7 +6,8 @@ use crate::text::Text;
 use digits::Ident;
 use host::Request;
 use host::Written;
-use line::Command;
+use line::command::Command;
+use line::command::Reading;
 
 // The longest line buffer, and what each of its bytes is before.
 const ROOM: usize = 64;
@@ -24,25 +25,28 @@ fn command_of(number: u8, axis: u8, flag: bool, value: u32) -> Command {
             minus: flag,
             length: value,
         },
-        1 => Command::Speed(value),
-        2 => Command::Slope(value),
-        3 => Command::Dwell(value),
-        4 => Command::Watch((value % 256) as u8),
-        5 => Command::Polarity(value),
-        6 => Command::Travel(axis),
-        7 => Command::Status,
+        1 => Command::Set { code: 8, value },
+        2 => Command::Set { code: 9, value },
+        3 => Command::Set { code: 10, value },
+        4 => Command::Set {
+            code: 11,
+            value: value % 256,
+        },
+        5 => Command::Set { code: 12, value },
+        6 => Command::Read(Reading::Travel(axis)),
+        7 => Command::Read(Reading::Status),
         8 => Command::Start {
             master: axis,
             waits: flag,
         },
-        9 => Command::Stop,
-        10 => Command::ClearWrongMaster,
-        11 => Command::ResetPositions,
-        12 => Command::LowOn(value),
-        13 => Command::HighOn(value),
-        14 => Command::Position(axis),
-        15 => Command::Everything,
-        16 => Command::Inputs,
+        9 => Command::Order(9),
+        10 => Command::Order(10),
+        11 => Command::Order(11),
+        12 => Command::Set { code: 13, value },
+        13 => Command::Set { code: 14, value },
+        14 => Command::Read(Reading::Position(axis)),
+        15 => Command::Read(Reading::Everything),
+        16 => Command::Read(Reading::Inputs),
         _ => Command::Outputs(value),
     }
 }
