@@ -13,8 +13,6 @@ use Rattle.laws.proofs.Pick.{by-bool}
 use Rattle.digits.specs.declared.Ident.{Ident}
 use Rattle.block.specs.Block.{over}
 use Rattle.block.proofs.Buffers.{over-nil}
-use Rattle.line.specs.declared.command.Command.{Command}
-use Rattle.line.specs.declared.command.Command.the-variants as C
 use Rattle.line.specs.declared.Judged.{Judged}
 use Rattle.line.specs.declared.Judged.the-variants.{Accepted, Refused}
 use Rattle.line.specs.Fits.{JudgedFits}
@@ -50,6 +48,7 @@ use Rattle.machine.specs.Stops.{takes, stops}
 use Rattle.machine.specs.Ramp.{runs}
 use Rattle.machine.specs.Commands.{number}
 use Rattle.machine.specs.Replies as machine
+use Rattle.machine.proofs.UnalteredLaws.{number-line}
 use Rattle.machine.proofs.FitLaws.{Fits}
 use Rattle.controller.specs.declared.Controller.{Controller}
 use Rattle.controller.specs.declared.PowerOn.{PowerOn}
@@ -208,15 +207,6 @@ heard-fit m b f = record {
   pause = f .pause;
 }
 
--- The characters of a line have no part in its number.
-number-heard : (m : Machine) (b : ℕ) (c : Command) → number (heardBy m b) c ≡ number m c
-number-heard m b (C.Distance k s d) = refl
-number-heard m b (C.Set code v) = refl
-number-heard m b (C.Start k w) = refl
-number-heard m b (C.Order code) = refl
-number-heard m b (C.Outputs v) = refl
-number-heard m b (C.Read r) = refl
-
 -- A line, answered by the held machine.
 lined-answer : (m : Machine) (b : ℕ) (silent : Bool) (ident : Ident) (j : Judged) → Fits (heardBy m b) → JudgedFits j
     → (linedOf (held (heardBy m b)) silent ident j ≡ heldByte (answered m b (decided m silent ident j)))
@@ -237,7 +227,7 @@ lined-answer m b silent ident (Accepted c digits) f h =
     × (cond (eqb n 0) (replyTo (held (heardBy m b)) silent ident c digits)
     (refusalTo (held (heardBy m b)) silent ident n)
     ≡ answered m b (decided m silent ident (Accepted c digits)) .reply))
-    (sym (number-is (heardBy m b) c f (h .command) ∙ number-heard m b c))
+    (sym (number-is (heardBy m b) c f (h .command) ∙ number-line m (receive (m .line) b .line) c))
     (by (eqb (number m c) 0))
   where
     told : (t : Bool) → cond t [] (replyOf (toldBy (readingsOf (held (heardBy m b)))) c digits ident)
