@@ -5,6 +5,7 @@ use native.Mathlib.Omega.{arith}
 use mathlib.Core.Bool.{Bool, true, false, false≢true}
 use mathlib.Core.Path.{_≡_, refl, sym}
 use borrow.Author.Tests.{lt-ltb, le-leb, lt-leb}
+use Rattle.laws.specs.Bits.{weight}
 use Rattle.digits.specs.Digits.{fourDigits, sixDigits, topBit}
 use Rattle.line.specs.declared.command.Reading.{Reading}
 use Rattle.line.specs.declared.command.Reading.the-variants as R
@@ -17,7 +18,7 @@ use Rattle.line.specs.Line.{judgeRow, judgeValue}
 use Rattle.line.specs.Fits.{CommandFits}
 use Rattle.line.proofs.Ranges.{axis, distance, outputs, bits-low, by-order, by-setting, is-within}
 use Rattle.host.specs.Writer.{letterOf, digitsOf}
-use Rattle.host.proofs.Contents.{code-back, five-back, setting-low}
+use Rattle.host.proofs.Contents.{code-back, five-back, minus-low, minus-back, length-back, setting-low}
 
 -- A command with its letter and six digits, judged.
 abbrev Taken : Command → Type 0
@@ -25,18 +26,11 @@ Taken c = judgeValue (letterOf c) 6 (digitsOf c) ≡ Accepted c (digitsOf c)
 
 accept-distance : (k : ℕ) (minus : Bool) (d : ℕ) → k < 5 → d < topBit → Taken (C.Distance k minus d)
 unfolding judgeRow
-accept-distance k true d h j =
-    let e = code-back k (topBit + d) (omega arith) in
-    let f = five-back k (topBit + d) (omega arith) in
-    let g : (topBit + d) % topBit ≡ d = omega arith in
+accept-distance k minus d h j =
+    let v = weight minus topBit + d in
+    let low = minus-low minus d j in
     let a = lt-ltb k 5 h in
-    rw (e, f, a, g, a, lt-ltb d topBit j, le-leb topBit (topBit + d) (omega arith))
-accept-distance k false d h j =
-    let e = code-back k (0 + d) (omega arith) in
-    let f = five-back k (0 + d) (omega arith) in
-    let g : (0 + d) % topBit ≡ d = omega arith in
-    let a = lt-ltb k 5 h in
-    rw (e, f, a, g, a, lt-ltb d topBit j, lt-leb topBit (0 + d) (omega arith))
+    rw (code-back k v low, five-back k v low, a, length-back minus d j, a, lt-ltb d topBit j, minus-back minus d j)
 
 accept-watch : (v : ℕ) → v ≤ 3 → Taken (C.Set 11 v)
 unfolding judgeRow
@@ -92,8 +86,9 @@ accepts (C.Read r) h q = accept-reading r h q
 
 -- The six digits are a number of 24 bits.
 pub digits-fit : (c : Command) → CommandFits c → digitsOf c < sixDigits
-digits-fit (C.Distance k true d) h = let t = distance k true d h in omega (arith, t .0, t .1)
-digits-fit (C.Distance k false d) h = let t = distance k false d h in omega (arith, t .0, t .1)
+digits-fit (C.Distance k minus d) h =
+    let t = distance k minus d h in
+    omega (arith, t .0, minus-low minus d (t .1))
 digits-fit (C.Set k v) h =
     by-setting (λ (c w : ℕ). digitsOf (C.Set c w) < sixDigits) k v (λ _ j. omega arith) (λ _ j. omega arith)
     (λ j. omega arith) (λ j. omega arith) (λ j. omega arith) (λ j. omega (arith, bits-low v j))

@@ -1,20 +1,17 @@
 -- Laws of what a command's line holds: six digits taken apart, and their bounds. Assumes nothing.
-use Prim.Native.Nat.{ℕ, _≤_, _<_}
+use Prim.Native.Nat.{ℕ, _+_, _%_, _≤_, _<_}
 use native.Mathlib.Omega.{arith}
-use mathlib.Core.Path.{_≡_, ap}
-use Rattle.digits.specs.Digits.{fiveDigits}
+use mathlib.Core.Bool.{Bool, true, false}
+use mathlib.Core.Path.{_≡_}
+use borrow.Author.Tests.{le-leb, lt-leb}
+use lib.Dec.{leb}
+use Rattle.laws.specs.Bits.{weight}
+use Rattle.digits.specs.Digits.{fiveDigits, topBit}
 use Rattle.line.specs.declared.command.Command.the-variants as C
 use Rattle.line.specs.Codes.{code, five}
 use Rattle.line.specs.Fits.{CommandFits}
 use Rattle.line.proofs.Ranges.{bits-low, by-setting}
 use Rattle.reply.specs.Reply.{coded}
-use Rattle.host.specs.declared.content.Content.{Content}
-
-abbrev content : ℕ → ℕ → Content
-content letter number = record { letter = letter; number = number }
-
-pub same-number : (letter : ℕ) {a b : ℕ} → a ≡ b → content letter a ≡ content letter b
-same-number letter e = ap (content letter) e
 
 -- A code and five digits, taken apart.
 pub code-back : (k v : ℕ) → v < fiveDigits → code (coded k v) ≡ k
@@ -22,6 +19,19 @@ code-back k v h = omega arith
 
 pub five-back : (k v : ℕ) → v < fiveDigits → five (coded k v) ≡ v
 five-back k v h = omega arith
+
+-- A distance's or a travel's five digits, of which the top bit is minus, taken apart.
+pub minus-low : (minus : Bool) (d : ℕ) → d < topBit → weight minus topBit + d < fiveDigits
+minus-low true d h = omega arith
+minus-low false d h = omega arith
+
+pub minus-back : (minus : Bool) (d : ℕ) → d < topBit → leb topBit (weight minus topBit + d) ≡ minus
+minus-back true d h = le-leb topBit (topBit + d) (omega arith)
+minus-back false d h = lt-leb topBit (0 + d) (omega arith)
+
+pub length-back : (minus : Bool) (d : ℕ) → d < topBit → (weight minus topBit + d) % topBit ≡ d
+length-back true d h = omega arith
+length-back false d h = omega arith
 
 -- A setting has five digits at most, the watch one.
 pub setting-low : (k v : ℕ) → CommandFits (C.Set k v) → v < fiveDigits

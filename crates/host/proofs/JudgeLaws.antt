@@ -1,12 +1,12 @@
--- Of an accepted line: its command is in range, and its identification is one that the writer writes with it. Assumes
--- nothing.
-use Prim.Native.Nat.{ℕ, _-_, _<_, min}
+-- Of an accepted line: its command is in range, and its identification is one that the writer writes with it. A line
+-- turned away is answered with one too. Assumes nothing.
+use Prim.Native.Nat.{ℕ, _-_, min}
 use native.Mathlib.Omega.{arith}
 use mathlib.Core.Bool.{Bool, true, false, cond, false≢true}
 use mathlib.Core.List.{List}
 use mathlib.Core.Path.{_≡_, refl, sym, ap, subst, _∙_}
 use lib.ListN.{length}
-use Rattle.laws.proofs.Pick.{by-eq}
+use Rattle.laws.proofs.Pick.{by-lt, by-eq}
 use Rattle.digits.specs.Digits.{digitOf, numberOf}
 use Rattle.digits.specs.declared.Ident.{Ident}
 use Rattle.digits.specs.declared.Ident.the-variants.{Absent, Given}
@@ -20,6 +20,7 @@ use Rattle.line.specs.Line.{charAt, isIdent, valueOf, identOf, digitCount, digi
 use Rattle.line.specs.Fits.{CommandFits, AcceptedFits, JudgedFits}
 use Rattle.line.proofs.Cases.{by-row, by-judge}
 use Rattle.line.proofs.Fits.{owned, judge-fits}
+use Rattle.reply.specs.Reply.{refusalIdent}
 use Rattle.host.specs.Writer.{identFits, isAbsent}
 
 pub accepted-fits : (cs : List ℕ) (c : Command) (digits : ℕ) → judgeOf cs ≡ Accepted c digits → CommandFits c
@@ -27,25 +28,28 @@ accepted-fits cs c digits e =
     let f : AcceptedFits c digits = subst JudgedFits e (judge-fits cs) in
     f .command
 
-pub ident-fits : (cs : List ℕ) → isIdent (digitOf (charAt cs 8)) ≡ true → identFits (identOf cs) ≡ true
+ident-fits : (cs : List ℕ) → isIdent (digitOf (charAt cs 8)) ≡ true → identFits (identOf cs) ≡ true
 ident-fits cs e = by-eq (λ (i : Ident). identFits i ≡ true) (length cs) 9 _ _ (λ _. e) (λ _. refl)
 
--- It is one, and a query has no digits.
-abbrev Named : Ident → ℕ → Judged → Type 0
+-- That which a line turned away is answered with.
+pub named-late : (ident : Ident) (n : ℕ) → identFits ident ≡ true → identFits (refusalIdent n ident) ≡ true
+named-late ident n e = by-lt (λ (i : Ident). identFits i ≡ true) n 8 Absent ident (λ _. refl) (λ _. e)
+
+-- Of an accepted line it is one, and a query has no digits; a line turned away is answered with one.
+abbrev pub Named : Ident → ℕ → Judged → Type 0
 Named ident count (Accepted c n) = (identFits ident ≡ true) × (isQuery c ≡ true → count ≡ 0)
-Named ident count (Refused n) = 0 < 1
+Named ident count (Refused n) = identFits (refusalIdent n ident) ≡ true
 
-always : 0 < 1
-always = omega arith
-
-line-named : (cs : List ℕ) → Named (identOf cs) (digitCount cs) (judgeOf cs)
+pub line-named : (cs : List ℕ) → Named (identOf cs) (digitCount cs) (judgeOf cs)
 line-named cs =
+    let ident = identOf cs in
     let count = digitCount cs in
     let n = valueOf (numberOf (digitChars cs)) in
     let letter = charAt cs 0 in
-    by-judge (Named (identOf cs) count) cs always always always always
-    λ e. by-row (Named (identOf cs) count) (rowOf letter count n) count n always always always
-    λ least c q _. (ident-fits cs e, owned count n letter least c q .bare)
+    by-judge (Named ident count) cs refl refl refl refl
+    λ e. let f = ident-fits cs e in
+    by-row (Named ident count) (rowOf letter count n) count n (named-late ident 8 f) (named-late ident 9 f)
+    (named-late ident 10 f) λ least c q _. (f, owned count n letter least c q .bare)
 
 -- A line with no digits has no identification.
 bare-absent : (cs : List ℕ) → digitCount cs ≡ 0 → isAbsent (identOf cs) ≡ true

@@ -61,8 +61,11 @@ digitsOf (C.Outputs v) = v
 digitsOf (C.Read r) = readingDigits r
 
 -- Both.
+abbrev pub content : ℕ → ℕ → Content
+content letter digits = record { letter = letter; number = digits }
+
 abbrev pub contentOf : Command → Content
-contentOf c = record { letter = letterOf c; number = digitsOf c }
+contentOf c = content (letterOf c) (digitsOf c)
 
 -- ---- Which values have a line: those whose fields are in the ranges of "Lines" (crate line, `fits`)
 

@@ -8,7 +8,7 @@ ghost use Rattle.line.specs.Codes.{isInputs, isQuery};
 ghost use Rattle.line.specs.Fits.{CommandFits};
 ghost use Rattle.line.specs.declared.command.Command.the-variants as C;
 ghost use Rattle.reply.specs.Reply.{coded};
-ghost use Rattle.host.specs.Writer.{contentOf};
+ghost use Rattle.host.specs.Writer.{content, contentOf};
 use digits::FIVE_DIGITS;
 use digits::FOUR_DIGITS;
 use digits::TOP_BIT;
@@ -34,12 +34,15 @@ pub(crate) struct Content {
     pub(crate) number: u32,
 }
 
-// A code and the five digits after it.
-fn coded(code: u8, five: u32) -> u32
+// A letter, a code and the five digits after it.
+fn coded(letter: u8, code: u8, five: u32) -> Content
     requires { ⌜ five < fiveDigits ⌝ }
-    ensures { λ r. ⌜ r ≡ coded code five ⌝ }
+    ensures { λ r. ⌜ r ≡ content letter (coded code five) ⌝ }
 {
-    code as u32 * FIVE_DIGITS + five
+    Content {
+        letter,
+        number: code as u32 * FIVE_DIGITS + five,
+    }
 }
 
 // A distance's five digits: the top bit is minus.
@@ -59,22 +62,12 @@ fn setting(code: u8, value: u32) -> Content
     ensures { λ r. ⌜ r ≡ contentOf (C.Set code value) ⌝ }
 {
     if code == WATCH {
-        return Content {
-            letter: b'P',
-            number: coded(code, value * FOUR_DIGITS),
-        };
+        return coded(b'P', code, value * FOUR_DIGITS);
     }
-    let number = coded(code, value);
     if code < LOW_ON {
-        return Content {
-            letter: b'P',
-            number,
-        };
+        return coded(b'P', code, value);
     }
-    Content {
-        letter: b'Q',
-        number,
-    }
+    coded(b'Q', code, value)
 }
 
 // Q 8: the second digit is the master, 8 more for a start after the dwell.
@@ -84,15 +77,9 @@ fn start(master: u8, waits: bool) -> Content
 {
     let second = master as u32;
     if waits {
-        return Content {
-            letter: b'Q',
-            number: coded(START, (WAITS + second) * FOUR_DIGITS),
-        };
+        return coded(b'Q', START, (WAITS + second) * FOUR_DIGITS);
     }
-    Content {
-        letter: b'Q',
-        number: coded(START, second * FOUR_DIGITS),
-    }
+    coded(b'Q', START, second * FOUR_DIGITS)
 }
 
 // A reading; W's query has no digits, and here stands with 0.
@@ -100,22 +87,10 @@ fn reading(reading: Reading) -> Content
     ensures { λ r. ⌜ r ≡ contentOf (C.Read reading) ⌝ }
 {
     match reading {
-        Reading::Travel(axis) => Content {
-            letter: b'Q',
-            number: coded(axis, 0),
-        },
-        Reading::Position(axis) => Content {
-            letter: b'q',
-            number: coded(axis, 0),
-        },
-        Reading::Status => Content {
-            letter: b'Q',
-            number: coded(STATUS, 0),
-        },
-        Reading::Everything => Content {
-            letter: b'q',
-            number: coded(EVERYTHING, 0),
-        },
+        Reading::Travel(axis) => coded(b'Q', axis, 0),
+        Reading::Position(axis) => coded(b'q', axis, 0),
+        Reading::Status => coded(b'Q', STATUS, 0),
+        Reading::Everything => coded(b'q', EVERYTHING, 0),
         Reading::Inputs => Content {
             letter: b'W',
             number: 0,
@@ -133,16 +108,10 @@ pub(crate) fn content_of(command: Command) -> Content
             axis,
             minus,
             length,
-        } => Content {
-            letter: b'P',
-            number: coded(axis, distance_digits(minus, length)),
-        },
+        } => coded(b'P', axis, distance_digits(minus, length)),
         Command::Set { code, value } => setting(code, value),
         Command::Start { master, waits } => start(master, waits),
-        Command::Order(code) => Content {
-            letter: b'Q',
-            number: coded(code, 0),
-        },
+        Command::Order(code) => coded(b'Q', code, 0),
         Command::Outputs(v) => Content {
             letter: b'W',
             number: v,

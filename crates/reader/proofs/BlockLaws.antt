@@ -1,9 +1,9 @@
 -- Each form of a reply block, read back: what the reader gives is what the block was made from. Assumes nothing.
-use Prim.Native.Nat.{ℕ, _+_, _-_, _%_, _≤_, _<_}
+use Prim.Native.Nat.{ℕ, _-_, _%_, _≤_, _<_}
 use native.Mathlib.Omega.{arith}
-use mathlib.Core.Bool.{Bool, true, false}
+use mathlib.Core.Bool.{Bool, false}
 use mathlib.Core.Path.{_≡_, ap, _∙_}
-use borrow.Author.Tests.{lt-ltb, le-ltb, le-leb, lt-leb, ne-eqb, ltb-false}
+use borrow.Author.Tests.{lt-ltb, le-ltb, ne-eqb, ltb-false}
 use lib.IntN.{ℤ, pos, negsuc}
 use Rattle.laws.proofs.Pick.{by-lt}
 use Rattle.digits.specs.Digits.{fiveDigits, sixDigits, topBit, sixOf}
@@ -24,7 +24,7 @@ use Rattle.reply.specs.Reply.{
   twenty,
 }
 use Rattle.machine.specs.Starts.{outside}
-use Rattle.host.proofs.Contents.{code-back, five-back}
+use Rattle.host.proofs.Contents.{code-back, five-back, minus-low, minus-back, length-back}
 use Rattle.reader.specs.Reader.{
   verdict,
   travelled,
@@ -83,18 +83,11 @@ module _ (switch : ℕ) (ident : Ident) (h : Framed switch ident) where
   pub travel-read : (k : ℕ) (minus : Bool) (t : ℕ) → k < 5 → t < topBit
       → readOf (blockFor switch letterS (coded k (travelDigits minus t)) ident) ≡ travelled switch k minus t ident
   unfolding fieldsIn
-  travel-read k true t p q =
-      let e = code-back k (topBit + t) (omega arith) in
-      let f = five-back k (topBit + t) (omega arith) in
-      let g : (topBit + t) % topBit ≡ t = omega arith in
-      block-read letterS switch (coded k (topBit + t)) ident h (omega arith)
-      ∙ rw (e, lt-ltb k 5 p, f, g, le-leb topBit (topBit + t) (omega arith))
-  travel-read k false t p q =
-      let e = code-back k (0 + t) (omega arith) in
-      let f = five-back k (0 + t) (omega arith) in
-      let g : (0 + t) % topBit ≡ t = omega arith in
-      block-read letterS switch (coded k (0 + t)) ident h (omega arith)
-      ∙ rw (e, lt-ltb k 5 p, f, g, lt-leb topBit (0 + t) (omega arith))
+  travel-read k minus t p q =
+      let v = travelDigits minus t in
+      let low = minus-low minus t q in
+      block-read letterS switch (coded k v) ident h (omega arith)
+      ∙ rw (code-back k v low, lt-ltb k 5 p, five-back k v low, length-back minus t q, minus-back minus t q)
 
   pub status-read : (v : ℕ) → v < 128 → readOf (blockFor switch letterS (coded 6 v) ident) ≡ status switch v ident
   unfolding fieldsIn

@@ -4,24 +4,20 @@ use Prim.Native.Nat.{ℕ, _≤_, _<_}
 use native.Mathlib.Omega.{arith}
 use mathlib.Core.Bool.{true}
 use mathlib.Core.List.{List}
-use mathlib.Core.Path.{_≡_, refl, sym, _∙_}
-use Rattle.laws.proofs.Pick.{by-lt}
-use Rattle.digits.specs.Digits.{numberOf}
+use mathlib.Core.Path.{_≡_, sym, _∙_}
 use Rattle.digits.specs.declared.Ident.{Ident}
-use Rattle.digits.specs.declared.Ident.the-variants.{Absent}
 use Rattle.line.specs.declared.command.Command.{Command}
 use Rattle.line.specs.declared.command.Command.the-variants as C
 use Rattle.line.specs.declared.Judged.{Judged}
 use Rattle.line.specs.declared.Judged.the-variants.{Accepted, Refused}
-use Rattle.line.specs.Codes.{code, rowOf}
-use Rattle.line.specs.Line.{charAt, valueOf, identOf, digitCount, digitChars, judgeOf}
+use Rattle.line.specs.Codes.{code}
+use Rattle.line.specs.Line.{identOf, digitCount, judgeOf}
 use Rattle.line.specs.Fits.{CommandFits, OrderFits, JudgedFits}
 use Rattle.line.proofs.Fits.{judge-fits}
 use Rattle.line.proofs.Ranges.{by-order, by-setting}
-use Rattle.line.proofs.Cases.{by-row, by-judge}
 use Rattle.reply.specs.Reply.{refusalIdent}
 use Rattle.host.specs.Writer.{identFits}
-use Rattle.host.proofs.JudgeLaws.{ident-fits}
+use Rattle.host.proofs.JudgeLaws.{Named, line-named}
 use Rattle.reader.specs.Reader.{isEcho}
 use Rattle.reader.proofs.EchoLaws.{EchoFits}
 
@@ -77,29 +73,10 @@ abbrev pub Tells : Ident → Judged → Type 0
 Tells ident (Accepted c n) = Accepts ident c n
 Tells ident (Refused n) = identFits (refusalIdent n ident) ≡ true
 
--- From 8 on.
-pub named-late : (ident : Ident) (n : ℕ) → identFits ident ≡ true → identFits (refusalIdent n ident) ≡ true
-named-late ident n e = by-lt (λ (i : Ident). identFits i ≡ true) n 8 Absent ident (λ _. refl) (λ _. e)
-
--- The identification alone.
-abbrev Named : Ident → Judged → Type 0
-Named ident (Accepted c n) = identFits ident ≡ true
-Named ident (Refused n) = identFits (refusalIdent n ident) ≡ true
-
-named : (cs : List ℕ) → Named (identOf cs) (judgeOf cs)
-named cs =
-    let ident = identOf cs in
-    let count = digitCount cs in
-    let n = valueOf (numberOf (digitChars cs)) in
-    by-judge (Named ident) cs refl refl refl refl
-    (λ e. let f = ident-fits cs e in
-    by-row (Named ident) (rowOf (charAt cs 0) count n) count n (named-late ident 8 f) (named-late ident 9 f)
-    (named-late ident 10 f) (λ _ _ _ _. f))
-
-tells : (ident : Ident) (j : Judged) → JudgedFits j → Named ident j → Tells ident j
-tells ident (Accepted c n) f e = record { named = e; digits = echoed c n (f .command) (f .order) }
-tells ident (Refused n) f e = e
+tells : (ident : Ident) (count : ℕ) (j : Judged) → JudgedFits j → Named ident count j → Tells ident j
+tells ident count (Accepted c n) f e = record { named = e .0; digits = echoed c n (f .command) (f .order) }
+tells ident count (Refused n) f e = e
 
 -- Every line's judgement.
 pub line-tells : (cs : List ℕ) → Tells (identOf cs) (judgeOf cs)
-line-tells cs = tells (identOf cs) (judgeOf cs) (judge-fits cs) (named cs)
+line-tells cs = tells (identOf cs) (digitCount cs) (judgeOf cs) (judge-fits cs) (line-named cs)

@@ -32,9 +32,10 @@ use Rattle.machine.specs.Steps.{
 use Rattle.machine.specs.Calls.{state}
 use Rattle.machine.proofs.FitLaws.{Fits, fits}
 use Rattle.host.specs.Writer.{identFits}
+use Rattle.host.proofs.JudgeLaws.{named-late}
 use Rattle.reader.specs.Reader.{Figures}
 use Rattle.reader.specs.ReadBack.{saidOf, ReadsAs, RepliesRead}
-use Rattle.reader.proofs.LineLaws.{Tells, named-late, line-tells}
+use Rattle.reader.proofs.LineLaws.{Tells, line-tells}
 use Rattle.reader.proofs.KeptLaws.{Kept, kept}
 use Rattle.reader.proofs.NumberLaws.{number-late}
 use Rattle.reader.proofs.ReplyLaws.{none-read, reply-reads, refusal-reads}

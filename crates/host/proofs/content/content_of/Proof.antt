@@ -1,15 +1,13 @@
 -- A case for each command. Assumes nothing.
 use borrow.Author.Needs.{needs}
-use Prim.Native.Nat.{_+_, _<_}
-use native.Mathlib.Omega.{arith}
 use mathlib.Core.Path.{ap, subst, _∙_}
-use Rattle.laws.specs.Bits.{weight}
-use Rattle.laws.proofs.BitLaws.{weight-le}
-use Rattle.digits.specs.Digits.{fiveDigits, topBit}
+use Prim.Native.Nat.{ℕ}
 use Rattle.line.specs.Fits.{CommandFits}
+use Rattle.line.specs.Codes.{letterP}
 use Rattle.line.proofs.Ranges.{axis, distance}
 use Rattle.reply.specs.Reply.{coded}
-use Rattle.host.proofs.Contents.{same-number}
+use Rattle.host.specs.Writer.{content}
+use Rattle.host.proofs.Contents.{minus-low}
 use Rattle.host.proofs.content.content_of.Statement.{statement}
 use Rattle.host.proofs.content.content_of.Tie as tie
 
@@ -26,9 +24,7 @@ coded-requires c κs =
     let k = c .before .before in
     let o = k .command .given in
     let h = distance (o .0 .0) (o .0 .1 .0) (o .0 .1 .1 .0) (subst CommandFits (o .1) (k .before .before .pre)) .1 in
-    let low : weight (o .0 .1 .0) topBit + o .0 .1 .1 .0 < fiveDigits =
-    omega (arith, h, weight-le (o .0 .1 .0) topBit) in
-    rw (c .distance-digits .ensures) low
+    rw (c .distance-digits .ensures) (minus-low (o .0 .1 .0) (o .0 .1 .1 .0) h)
 
 enum-known-command-2 : tie.Need-enum-known-command-2
 enum-known-command-2 c = search needs
@@ -59,9 +55,9 @@ reading-requires c κs = search needs
 
 returns : tie.Need-returns
 returns c =
-    let k = c .before .before .before in
-    rw (k .command .given .1)
-    (same-number _ (c .coded .ensures ∙ ap (coded _) (c .before .distance-digits .ensures)))
+    let o = c .before .before .before .command .given in
+    rw (o .1)
+    (c .coded .ensures ∙ ap (λ (v : ℕ). content letterP (coded (o .0 .0) v)) (c .before .distance-digits .ensures))
 
 returns-2 : tie.Need-returns-2
 returns-2 c = rw (c .before .before .command2 .given .1) (c .setting .ensures)
@@ -70,7 +66,7 @@ returns-3 : tie.Need-returns-3
 returns-3 c = rw (c .before .before .command3 .given .1) (c .start .ensures)
 
 returns-4 : tie.Need-returns-4
-returns-4 c = rw (c .before .before .command4 .given .1) (same-number _ (c .coded2 .ensures))
+returns-4 c = rw (c .before .before .command4 .given .1) (c .coded2 .ensures)
 
 returns-5 : tie.Need-returns-5
 returns-5 c = rw (c .before .command5 .given .1)

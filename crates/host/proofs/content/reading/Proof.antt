@@ -1,6 +1,5 @@
 -- A case for each reading. Assumes nothing.
 use borrow.Author.Needs.{needs}
-use Rattle.host.proofs.Contents.{same-number}
 use Rattle.host.proofs.content.reading.Statement.{statement}
 use Rattle.host.proofs.content.reading.Tie as tie
 
@@ -32,16 +31,16 @@ enum-told-3 : tie.Need-enum-told-3
 enum-told-3 c = search needs
 
 returns : tie.Need-returns
-returns c = rw (c .before .before .reading .given .1) (same-number _ (c .coded .ensures))
+returns c = rw (c .before .before .reading .given .1) (c .coded .ensures)
 
 returns-2 : tie.Need-returns-2
-returns-2 c = rw (c .before .before .reading2 .given .1) (same-number _ (c .coded2 .ensures))
+returns-2 c = rw (c .before .before .reading2 .given .1) (c .coded2 .ensures)
 
 returns-3 : tie.Need-returns-3
-returns-3 c = rw (c .before .enum-told .given .1) (same-number _ (c .coded3 .ensures))
+returns-3 c = rw (c .before .enum-told .given .1) (c .coded3 .ensures)
 
 returns-4 : tie.Need-returns-4
-returns-4 c = rw (c .before .enum-told2 .given .1) (same-number _ (c .coded4 .ensures))
+returns-4 c = rw (c .before .enum-told2 .given .1) (c .coded4 .ensures)
 
 returns-5 : tie.Need-returns-5
 returns-5 c = rw (c .enum-told3 .given .1)

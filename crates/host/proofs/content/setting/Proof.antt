@@ -1,7 +1,7 @@
 -- A setting: the watch, then P or Q by the code. Assumes nothing.
 use native.Mathlib.Omega.{arith}
 use borrow.Author.Tests.{eq-eqb, ne-eqb, lt-ltb, le-ltb}
-use Rattle.host.proofs.Contents.{setting-low, watch-low, same-number}
+use Rattle.host.proofs.Contents.{setting-low, watch-low}
 use Rattle.host.proofs.content.setting.Statement.{statement}
 use Rattle.host.proofs.content.setting.Tie as tie
 
@@ -18,22 +18,33 @@ coded-requires c κs =
 returns : tie.Need-returns
 returns c =
     let e = c .before .if1 .taken in
-    rw (eq-eqb (c .before .before .args .code) 11 e, lt-ltb (c .before .before .args .code) 13 (omega arith))
-    (same-number _ (c .coded .ensures))
+    let k = c .before .before .args .code in
+    rw (eq-eqb k 11 e, lt-ltb k 13 (omega arith)) (c .coded .ensures)
 
 coded-requires-2 : tie.Need-coded-requires-2
-coded-requires-2 c κs = let a = c .before .args in setting-low (a .code) (a .value) (c .before .pre)
+coded-requires-2 c κs = let s = c .before .before in setting-low (s .args .code) (s .args .value) (s .pre)
 
 returns-2 : tie.Need-returns-2
 returns-2 c =
-    rw (ne-eqb _ _ (c .before .before .if1 .left), lt-ltb _ _ (c .if2 .taken))
-    (same-number _ (c .before .coded2 .ensures))
+    let i = c .before in
+    rw (ne-eqb _ _ (i .before .if1 .left), lt-ltb _ _ (i .if2 .taken)) (c .coded2 .ensures)
+
+coded-requires-3 : tie.Need-coded-requires-3
+coded-requires-3 c κs = let s = c .before .before in setting-low (s .args .code) (s .args .value) (s .pre)
 
 returns-3 : tie.Need-returns-3
 returns-3 c =
-    rw (ne-eqb _ _ (c .before .before .if1 .left), le-ltb _ _ (c .if2 .left))
-    (same-number _ (c .before .coded2 .ensures))
+    let i = c .before in
+    rw (ne-eqb _ _ (i .before .if1 .left), le-ltb _ _ (i .if2 .left)) (c .coded3 .ensures)
 
 pub setting-spec : {M : Type 1} → statement M
 setting-spec =
-    tie.close (tie.spec mul-coded coded-requires returns coded-requires-2 returns-2 returns-3)
+    tie.close
+    (tie.spec
+    mul-coded
+    coded-requires
+    returns
+    coded-requires-2
+    returns-2
+    coded-requires-3
+    returns-3)
