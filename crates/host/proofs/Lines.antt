@@ -21,7 +21,7 @@ use Rattle.line.specs.Ranges.{fits}
 use Rattle.line.specs.Codes.{letterP, letterQ, letterq, letterW, isQuery}
 use Rattle.line.specs.Line.{isLetter, isIdent, judgeRow, judgeValue, judgeOf}
 use Rattle.line.specs.Fits.{CommandFits}
-use Rattle.line.proofs.Ranges.{both}
+use Rattle.laws.proofs.Tests.{both}
 use Rattle.receiver.specs.declared.Heard.the-variants.{Line}
 use Rattle.receiver.specs.Receiver.{heardLine}
 use Rattle.host.specs.declared.Request.{Request}

@@ -18,6 +18,10 @@ pub either : {A : Type 0} (a b : Bool) → a || b ≡ true → (a ≡ true → A
 either true b e f g = f refl
 either false b e f g = g refl e
 
+pub and-true : (b : Bool) → b && true ≡ false → b ≡ false
+and-true true e = e
+and-true false e = e
+
 -- The second operand, where the first is false.
 pub second : (a b : Bool) → a || b ≡ true → a ≡ false → b ≡ true
 second a b e n = either a b e (λ p. true-false a p n) (λ _ q. q)

@@ -1,12 +1,13 @@
 -- A line's judgement by its cases: turned away by a number from 4 to 10, or accepted. Assumes nothing.
 use Prim.Native.Nat.{ℕ}
-use mathlib.Core.Bool.{Bool, true, false, not, _||_, false≢true}
+use mathlib.Core.Bool.{true, false, not, _||_}
 use mathlib.Core.List.{List}
-use mathlib.Core.Path.{_≡_, refl, sym}
+use mathlib.Core.Path.{_≡_, refl}
 use borrow.Author.Tests.{not-false}
 use lib.Dec.{ltb}
 use lib.ListN.{length}
 use Rattle.laws.proofs.Pick.{by-bool}
+use Rattle.laws.proofs.Tests.{neither}
 use Rattle.digits.specs.Digits.{digitOf, numberOf}
 use Rattle.line.specs.declared.command.Command.{Command}
 use Rattle.line.specs.declared.row.Row.{Row}
@@ -27,10 +28,6 @@ use Rattle.line.specs.Line.{
   judgeValue,
   judgeOf,
 }
-
-first-false : (a b : Bool) → (a || b) ≡ false → a ≡ false
-first-false true b e = absurd (false≢true (sym e))
-first-false false b e = refl
 
 -- ---- P of a judgement
 
@@ -57,4 +54,4 @@ module _ (P : Judged → Type 0) where
       λ _. by-bool P (not (isSwitch (charAt cs 1))) _ _ (λ _. p6)
       λ _. by-bool P (not (isIdent (digitOf (charAt cs 8))) || not (isNumber number)) _ _ (λ _. p7)
       λ q. p (not-false (isIdent (digitOf (charAt cs 8)))
-      (first-false (not (isIdent (digitOf (charAt cs 8)))) (not (isNumber number)) q))
+      (neither (not (isIdent (digitOf (charAt cs 8)))) (not (isNumber number)) q .0))

@@ -1,20 +1,17 @@
 -- What a command in range has: the facts that `fits` tells, case by case. Assumes nothing.
 use Prim.Native.Nat.{ℕ, _/_, _%_, _≤_, _<_}
 use native.Mathlib.Omega.{arith}
-use mathlib.Core.Bool.{Bool, true, false, _&&_, false≢true}
+use mathlib.Core.Bool.{Bool, true, false, false≢true}
 use mathlib.Core.Path.{_≡_, refl}
 use lib.Dec.{ltb, leb, eqb}
 use borrow.Author.Tests.{ltb-true, leb-true, le-leb, eqb-true, ne-eqb}
 use Rattle.digits.specs.Digits.{sixDigits, topBit}
 use Rattle.laws.proofs.Pick.{by-eq}
+use Rattle.laws.proofs.Tests.{both}
 use Rattle.line.specs.declared.command.Command.the-variants as C
 use Rattle.line.specs.Ranges.{isWithin, isAxis, inputBits, fits}
 
 -- ---- tests taken apart
-
-pub both : (a b : Bool) → (a && b) ≡ true → (a ≡ true) × (b ≡ true)
-both true b e = (refl, e)
-both false b e = absurd (false≢true e)
 
 pub within : (n low high : ℕ) → isWithin n low high ≡ true → (low ≤ n) × (n ≤ high)
 within n low high e =

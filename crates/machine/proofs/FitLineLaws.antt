@@ -51,10 +51,6 @@ reset-room : (s : Bool) (d t : ℕ) → d ≤ 524287 → Room s 524288 (d - t)
 reset-room true d t h = omega arith
 reset-room false d t h = omega arith
 
-free : (b : Bool) → b && true ≡ false → b ≡ false
-free true e = e
-free false e = e
-
 fits-setting : (m : Machine) (b code v : ℕ) → Fits m → settingFits code v ≡ true
     → Fits (withWatch (does (heardBy m b) (C.Set code v)) 0)
 fits-setting m b code v f h =

@@ -9,12 +9,15 @@ pub mod EffectLaws
 pub mod LineLaws
 pub mod LookLaws
 pub mod CallLaws
+pub mod PauseLineLaws
+pub mod PauseStageLaws
 pub mod PauseLaws
 pub mod Fits
 pub mod FitStageLaws
 pub mod FitRunLaws
 pub mod FitLineLaws
 pub mod FitLaws
+pub mod ListLaws
 pub mod DemandLaws
 pub mod MarkedLaws
 pub mod FlaggedLaws

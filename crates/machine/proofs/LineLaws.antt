@@ -8,6 +8,7 @@ use borrow.Author.Tests.{eqb-true}
 use lib.Dec.{ltb, leb, eqb}
 use lib.IntN.{pos}
 use lib.ListN.{length}
+use Rattle.laws.proofs.Tests.{and-true}
 use Rattle.laws.proofs.Pick.{by-bool}
 use Rattle.digits.specs.declared.Ident.{Ident}
 use Rattle.line.specs.declared.command.Command.{Command}
@@ -29,10 +30,6 @@ use Rattle.machine.proofs.RunLaws.{Good}
 use Rattle.machine.proofs.CalledLaws.{Called, called-same}
 use Rattle.machine.proofs.ReadyLaws.{passed, ready}
 use Rattle.machine.proofs.EffectLaws.{called-start, called-quiet, called-distance, called-reset, called-stop}
-
-at-rest : (b : Bool) → b && true ≡ false → b ≡ false
-at-rest true e = e
-at-rest false e = e
 
 -- An accepted line, whose command leaves the machine a.
 abbrev Accepts : Machine → Command → Machine → Type 0
@@ -69,7 +66,7 @@ called-starting m b k w g e = when (stores m w) refl
     when false f =
         called-start m k w _
         (ready m k (subst (λ (t : Bool). cond t 0 (startNumber m k) ≡ 0) f (p11 .1)))
-        (at-rest (m .move .moving) (p11 .0)) f refl refl refl
+        (and-true (m .move .moving) (p11 .0)) f refl refl refl
 
 called-stopping : (m : Machine) (b : ℕ) → Good (m .move) → Accepts m (C.Order 9) (obeys (heardBy m b) 9)
 called-stopping m b g =

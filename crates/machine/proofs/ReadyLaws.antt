@@ -1,13 +1,12 @@
 -- What a start that no number of 12 to 17 turns away has. Assumes nothing.
 use Prim.Native.Nat.{ℕ, _≤_, _<_}
-use mathlib.Core.Bool.{Bool, true, false, cond, _||_}
+use mathlib.Core.Bool.{Bool, true, false, cond}
 use mathlib.Core.Path.{_≡_, refl}
 use native.Mathlib.Omega.{arith}
 use borrow.Author.Tests.{eqb-false, ltb-false}
 use lib.Dec.{ltb, eqb}
-use Rattle.laws.proofs.Tests.{true-false}
 use Rattle.laws.specs.Axes.{some}
-use Rattle.laws.proofs.Five.{five}
+use Rattle.laws.proofs.Some.{none-of}
 use Rattle.machine.specs.State.{Machine}
 use Rattle.machine.specs.Stops.{sensorActive, blocked}
 use Rattle.machine.specs.Starts.{startNumber, newMove, outside, final}
@@ -17,18 +16,6 @@ use Rattle.machine.proofs.RunLaws.{Good}
 pub passed : (t : Bool) (n x : ℕ) → 0 < n → cond t n x ≡ 0 → (t ≡ false) × (x ≡ 0)
 passed true n x h e = absurd (omega (arith, e))
 passed false n x h e = (refl, e)
-
-or-none : (a b : Bool) → a || b ≡ false → (a ≡ false) × (b ≡ false)
-or-none true b e = true-false true refl e
-or-none false b e = (refl, e)
-
-pub none-of : (f : ℕ → Bool) → some f ≡ false → (k : ℕ) → k < 5 → f k ≡ false
-none-of f e k h =
-    let a = or-none (f 0 || f 1 || f 2 || f 3) (f 4) e in
-    let b = or-none (f 0 || f 1 || f 2) (f 3) (a .0) in
-    let c = or-none (f 0 || f 1) (f 2) (b .0) in
-    let d = or-none (f 0) (f 1) (c .0) in
-    five (λ (j : ℕ). f j ≡ false) (d .0) (d .1) (c .1) (b .1) (a .1) k h
 
 -- What no number of 12 to 17 turns away.
 pub record Ready (m : Machine) (k : ℕ) : Type 0 where

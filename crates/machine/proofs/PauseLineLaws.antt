@@ -1,0 +1,110 @@
+-- What a received byte does to the dwell and the stored start, and to the dwell set. Assumes nothing.
+use Prim.Native.Nat.{ℕ}
+use mathlib.Core.Bool.{Bool, true, false, cond}
+use mathlib.Core.List.{List}
+use mathlib.Core.Path.{_≡_, refl}
+use lib.Dec.{ltb, leb, eqb}
+use lib.ListN.{length}
+use Rattle.laws.proofs.Pick.{by-bool}
+use Rattle.digits.specs.declared.Ident.{Ident}
+use Rattle.line.specs.declared.command.Command.{Command}
+use Rattle.line.specs.declared.command.Command.the-variants as C
+use Rattle.line.proofs.Ranges.{by-code}
+use Rattle.line.specs.declared.Judged.{Judged}
+use Rattle.line.specs.declared.Judged.the-variants.{Accepted, Refused}
+use Rattle.receiver.specs.declared.Heard.{Heard}
+use Rattle.receiver.specs.declared.Heard.the-variants.{Character, Line}
+use Rattle.receiver.specs.Receiver.{receive}
+use Rattle.machine.specs.State.{Machine, Waiting, none, start, Pause}
+use Rattle.machine.specs.Starts.{begun}
+use Rattle.machine.specs.Commands.{number, does, stores, drops, keepsStart, obeys}
+use Rattle.machine.specs.Steps.{
+  Outcome,
+  refused,
+  decided,
+  outcomeOf,
+  outcome,
+  answered,
+  heardBy,
+  Tried,
+  untried,
+  began,
+}
+use Rattle.machine.specs.Roles.{other, dwellLine, roleOf, roleBy, begins, startBy, waitingBy, dwellBy}
+
+-- What a line leaves of the pause: a start that takes effect ends the dwell.
+abbrev pauseBy : Pause → Tried → Waiting → Pause
+pauseBy p S w = record { left = cond (begins S) 0 (p .left); waiting = w }
+
+does-pause : (m : Machine) (b : ℕ) (c : Command)
+    → does (heardBy m b) c .pause
+    ≡ pauseBy (m .pause) (startBy (m .pause) (roleOf c)) (waitingBy (m .pause) (roleOf c))
+does-pause m b (C.Distance k s d) = refl
+does-pause m b (C.Set code v) = when (eqb code 10)
+  where
+    when : (t : Bool) → m .pause ≡ pauseBy (m .pause) (startBy (m .pause) (cond t (dwellLine v) other))
+        (waitingBy (m .pause) (cond t (dwellLine v) other))
+    when true = refl
+    when false = refl
+does-pause m b (C.Start k w) = when (stores m w)
+  where
+    when : (t : Bool)
+        → cond t (keepsStart (heardBy m b) k) (begun (heardBy m b) k) .pause
+        ≡ pauseBy (m .pause) (cond t untried (began k)) (cond t (start k) none)
+    when true = refl
+    when false = refl
+does-pause m b (C.Order code) =
+    by-code (λ (k : ℕ). obeys (heardBy m b) k .pause
+    ≡ pauseBy (m .pause) (startBy (m .pause) (roleOf (C.Order k))) (waitingBy (m .pause) (roleOf (C.Order k))))
+    (by-bool (λ (a : Machine). drops a .pause ≡ record { left = m .pause .left; waiting = none }) (m .move .moving) _ _
+    (λ e. refl) (λ e. refl))
+    refl refl (λ k p q r. rw (p, q, r)) code
+does-pause m b (C.Outputs v) = refl
+does-pause m b (C.Read r) = refl
+
+does-dwell : (m : Machine) (c : Command) → does m c .settings .dwell ≡ dwellBy (roleOf c) (m .settings .dwell)
+does-dwell m (C.Distance k s d) = refl
+does-dwell m (C.Set code v) = when (eqb code 10)
+  where
+    when : (t : Bool)
+        → cond t v (m .settings .dwell) ≡ dwellBy (cond t (dwellLine v) other) (m .settings .dwell)
+    when true = refl
+    when false = refl
+does-dwell m (C.Start k w) =
+    by-bool (λ (a : Machine). a .settings .dwell ≡ m .settings .dwell) (stores m w) _ _ (λ e. refl) (λ e. refl)
+does-dwell m (C.Order code) =
+    by-code (λ (k : ℕ). obeys m k .settings .dwell ≡ dwellBy (roleOf (C.Order k)) (m .settings .dwell))
+    (by-bool (λ (a : Machine). drops a .settings .dwell ≡ m .settings .dwell) (m .move .moving) _ _
+    (λ e. refl) (λ e. refl))
+    refl refl (λ k p q r. rw (p, q, r)) code
+does-dwell m (C.Outputs v) = refl
+does-dwell m (C.Read r) = refl
+
+-- A byte whose outcome is o.
+pub record Byte (m : Machine) (b : ℕ) (o : Outcome) : Type 0 where
+  pub pause : answered m b o .machine .pause
+      ≡ pauseBy (m .pause) (startBy (m .pause) (roleBy o)) (waitingBy (m .pause) (roleBy o))
+  pub dwell : answered m b o .machine .settings .dwell ≡ dwellBy (roleBy o) (m .settings .dwell)
+
+refused-pause : (m : Machine) (b n : ℕ) (silent : Bool) (ident : Ident) → Byte m b (refused n silent ident)
+refused-pause m b n silent ident = record {
+  pause = by-bool (λ (a : Machine). a .pause ≡ m .pause) (leb 10 n) _ _ (λ e. refl) (λ e. refl);
+  dwell = by-bool (λ (a : Machine). a .settings .dwell ≡ m .settings .dwell) (leb 10 n) _ _ (λ e. refl) (λ e. refl);
+}
+
+decided-pause : (m : Machine) (b : ℕ) (silent : Bool) (ident : Ident) (j : Judged) → Byte m b (decided m silent ident j)
+decided-pause m b silent ident (Refused n) = refused-pause m b n silent ident
+decided-pause m b silent ident (Accepted c digits) =
+    by-bool (Byte m b) (eqb (number m c) 0) _ _
+    (λ e. record { pause = does-pause m b c; dwell = does-dwell (heardBy m b) c })
+    (λ e. refused-pause m b (number m c) silent ident)
+
+heard-pause : (m : Machine) (b : ℕ) (h : Heard) → Byte m b (outcomeOf m h)
+heard-pause m b Character = record { pause = refl; dwell = refl }
+heard-pause m b (Line silent ident j) = decided-pause m b silent ident j
+
+pub byte-pause : (m : Machine) (b : ℕ) (buffer : List ℕ) → Byte m b (outcome m b buffer)
+byte-pause m b buffer =
+    by-bool (Byte m b) (ltb (length buffer) 120) _ _
+    (λ e. record { pause = refl; dwell = refl })
+    (λ e. heard-pause m b (receive (m .line) b .heard))
