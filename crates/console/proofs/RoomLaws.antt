@@ -7,7 +7,7 @@ use mathlib.Core.List.{List}
 use mathlib.Core.Path.{_≡_, ap, _∙_}
 use borrow.Author.Tests.{le-ltb}
 use lib.ListN.{length, length-append, take, drop, length-drop}
-use lib.Seq.{length-take-le}
+use lib.Seq.{length-take-le, take-all}
 use Rattle.block.specs.Block.{over}
 use Rattle.machine.specs.Calls.{state}
 use Rattle.session.specs.declared.Session.{Session}
@@ -37,3 +37,6 @@ module _ (s : Session) (b : ℕ) (r : Taken) (x d : List ℕ) (q : Runs s (λ y.
 -- The part of a buffer from a place on.
 pub part-length : (o : List ℕ) (at : ℕ) → length (take (length o - at) (drop at o)) ≡ length o - at
 part-length o at = length-take-le (length o - at) (drop at o) (omega (arith, length-drop at o))
+
+pub part-rest : (o : List ℕ) (at : ℕ) → take (length o - at) (drop at o) ≡ drop at o
+part-rest o at = take-all (length o - at) (drop at o) (omega (arith, length-drop at o))

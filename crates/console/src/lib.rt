@@ -1,9 +1,9 @@
 // What the bench program does with the bytes of a read (paper 01, "Host end and program"): all are taken, each once and
 // in order, and what they print is written at once. What the bytes do is the proved work of `session`; here what is
 // printed is written out. Assumes nothing beyond the contract of the C function that writes.
-ghost use Prim.Native.Nat.{_+_, _≤_};
+ghost use Prim.Native.Nat.{_+_, _≤_, _<_};
 ghost use mathlib.Core.Path.{_≡_};
-ghost use lib.ListN.{length};
+ghost use lib.ListN.{length, take};
 ghost use Rattle.session.specs.Lines.{after};
 ghost use Rattle.session.specs.Session.{taken, heldBench, Running, Runs};
 use libc::STDOUT_FILENO;
@@ -16,6 +16,13 @@ const ROOM: usize = 65416;
 struct Printed {
     session: Session,
     length: usize,
+}
+
+// The session after some bytes, the length of what they print, and how many they are.
+struct Line {
+    session: Session,
+    length: usize,
+    count: usize,
 }
 
 // The length of what waits to be written, and whether the output took all that was written.
@@ -67,6 +74,36 @@ fn pass_byte(s: Session, out: &mut [u8], at: usize, b: u8) -> Printed
     }
 }
 
+// The characters of a line and the byte behind them, as far as they have come. What that prints stands in `out` behind
+// the `at` bytes that stand there.
+fn pass_line(s: Session, out: &mut [u8], at: usize, bytes: &[u8]) -> Line
+    requires { ⌜ Running s ⌝ }
+    requires { ⌜ at + 120 ≤ length (now out) ⌝ }
+    ensures { λ r. ⌜ Running (r .session) ⌝ }
+    ensures { λ r. ⌜ r .length ≤ length (now (out .entry)) ⌝ }
+    ensures { λ r. ⌜ (r .count ≤ length (now (bytes .entry))) × (0 < length (now (bytes .entry)) → 0 < r .count) ⌝ }
+    ensures { λ r. ⌜ Runs s (λ x. r .session ≡ heldBench (after x (take (r .count) (now (bytes .entry))))) ⌝ }
+{
+    let gathered = s.gather(bytes);
+    let session = gathered.session;
+    let n = gathered.count;
+    if n < bytes.len() {
+        let count = n + 1;
+        let printed = pass_byte(session, out, at, bytes[n]);
+        let next = printed.session;
+        return Line {
+            session: next,
+            length: printed.length,
+            count,
+        };
+    }
+    Line {
+        session,
+        length: at,
+        count: n,
+    }
+}
+
 // The bytes of a read. What they print is written at once; in parts only where it is longer than the buffer.
 pub fn pass_all(s: Session, bytes: &[u8]) -> Passed
     requires { ⌜ Running s ⌝ }
@@ -82,14 +119,14 @@ pub fn pass_all(s: Session, bytes: &[u8]) -> Passed
     let mut i = 0;
     while i < bytes.len() {
         let room = make_room(waiting, &out);
-        let passed = pass_byte(session, &mut out, room.length, bytes[i]);
+        let passed = pass_line(session, &mut out, room.length, &bytes[i..]);
         let next = passed.session;
         session = next;
         waiting = Waiting {
             length: passed.length,
             written: room.written,
         };
-        i += 1;
+        i += passed.count;
     }
     let written = print(waiting.written, &out, waiting.length);
     Passed { session, written }

@@ -1,13 +1,15 @@
 -- All bytes of a slice, each once and in order. The invariant: calls made the session, it is the bench after the bytes
 -- so far, and what waits to be written stands in the buffer. The measure is the bytes left. Assumes nothing.
-use Prim.Native.Nat.{_-_, _≤_, _<_}
+use Prim.Native.Nat.{ℕ, _-_, _≤_}
 use borrow.Author.Needs.{needs}
 use native.Mathlib.Omega.{arith}
-use mathlib.Core.Path.{_≡_, sym, _∙_}
+use mathlib.Core.List.{List}
+use mathlib.Core.Path.{_≡_, sym, subst, _∙_}
 use lib.ListN.{length, take}
 use Rattle.session.specs.Lines.{after}
 use Rattle.session.specs.Session.{heldBench, Running, Runs}
-use Rattle.session.proofs.AfterLaws.{after-none, after-one, after-all}
+use Rattle.session.proofs.AfterLaws.{after-none, after-more, after-all}
+use Rattle.console.proofs.RoomLaws.{part-length, part-rest}
 use Rattle.console.proofs.pass_all.Statement.{statement}
 use Rattle.console.proofs.pass_all.Tie as tie
 
@@ -33,34 +35,68 @@ slice-aggregate-make-room c = search needs
 make-room-requires : tie.Need-make-room-requires Inv-loop μ-loop
 make-room-requires c κs = search needs
 
-slice-aggregate-pass-byte : tie.Need-slice-aggregate-pass-byte Inv-loop μ-loop
-slice-aggregate-pass-byte c = search needs
+slice-aggregate-pass-line : tie.Need-slice-aggregate-pass-line Inv-loop μ-loop
+slice-aggregate-pass-line c = search needs
 
-shared-slice-read-pass-byte : tie.Need-shared-slice-read-pass-byte Inv-loop μ-loop
-shared-slice-read-pass-byte c = omega arith
+sub-pass-line : tie.Need-sub-pass-line Inv-loop μ-loop
+sub-pass-line c = search needs
 
-pass-byte-requires : tie.Need-pass-byte-requires Inv-loop μ-loop
-pass-byte-requires c κs =
+part-pass-line-start : tie.Need-part-pass-line-start Inv-loop μ-loop
+part-pass-line-start c = search needs
+
+part-pass-line-end : tie.Need-part-pass-line-end Inv-loop μ-loop
+part-pass-line-end c = search needs
+
+pass-line-requires : tie.Need-pass-line-requires Inv-loop μ-loop
+pass-line-requires c κs =
     let l = c .before .before .before .before .before .loop in
     (l .inv .2, omega (arith, l .inv .1, c .before .before .make-room .ensures))
 
 add-i : tie.Need-add-i Inv-loop μ-loop
-add-i c = omega arith
+add-i c =
+    let p = c .before .before .before in
+    let l = p .before .before .before .before .before .before in
+    omega (
+      arith,
+      p .pass-line .ensures .1 .1 .0 .0,
+      part-length (l .before .before .before .args .bytes .now) (l .loop .i),
+      l .loop .inv .0,
+    )
 
 loop-less : tie.Need-loop-less Inv-loop μ-loop
-loop-less c = omega arith
+loop-less c =
+    let p = c .before .before .before in
+    let t = p .before .before .before .before .before in
+    let l = t .before in
+    let bs = l .before .before .before .args .bytes .now in
+    let n = part-length bs (l .loop .i) in
+    omega (
+      arith,
+      p .pass-line .ensures .1 .1 .0 .1 (omega (arith, n, t .loop-test .taken)),
+      p .pass-line .ensures .1 .1 .0 .0,
+      n,
+      t .loop-test .taken,
+    )
 
 loop-again : tie.Need-loop-again Inv-loop μ-loop
 loop-again c =
-    let l = c .before .before .before .before .before .before .before .before .loop in
-    let a = c .before .before .before .before .before .before .before .before .before .before .before .args in
-    let b = c .before .before .pass-byte in
-    let k : l .i < length (a .bytes .now) =
-    omega (arith, c .before .before .before .before .before .before .before .loop-test .taken) in (
-      omega (arith, k),
-      l .inv .1 ∙ sym (b .kept .1 .0),
-      b .ensures .0,
-      after-one (a .s) (l .session) (b .result .session) (a .bytes .now) (l .i) k (l .inv .3) (b .ensures .1 .1),
+    let p = c .before .before .before in
+    let l = p .before .before .before .before .before .before in
+    let a = l .before .before .before .args in
+    let bs = a .bytes .now in (
+      omega (
+        arith,
+        p .pass-line .ensures .1 .1 .0 .0,
+        part-length bs (l .loop .i),
+        l .loop .inv .0,
+      ),
+      l .loop .inv .1 ∙ sym (p .pass-line .kept .1 .0),
+      p .pass-line .ensures .0,
+      after-more (a .s) (l .loop .session) (p .pass-line .result .session) bs (l .loop .i)
+          (p .pass-line .result .count) (l .loop .inv .3)
+          (subst (λ (d : List ℕ). Runs (l .loop .session)
+          (λ x. p .pass-line .result .session ≡ heldBench (after x (take (p .pass-line .result .count) d))))
+          (part-rest bs (l .loop .i)) (p .pass-line .ensures .1 .1 .1)),
     )
 
 slice-aggregate-print : tie.Need-slice-aggregate-print Inv-loop μ-loop
@@ -86,9 +122,11 @@ pass-all-spec =
     loop-holds
     slice-aggregate-make-room
     make-room-requires
-    slice-aggregate-pass-byte
-    shared-slice-read-pass-byte
-    pass-byte-requires
+    slice-aggregate-pass-line
+    sub-pass-line
+    part-pass-line-start
+    part-pass-line-end
+    pass-line-requires
     add-i
     loop-less
     loop-again
