@@ -17,8 +17,8 @@ use Rattle.machine.specs.Calls.{Call, state}
 use Rattle.machine.specs.Roles.{begins, lineOf, resetBy, sent}
 use Rattle.machine.specs.List.{effect, isPulse, counted, signed, latest}
 use Rattle.machine.proofs.DemandLaws.{demand-3, counts-hold}
-use Rattle.controller.specs.declared.PowerOn.{PowerOn}
-use Rattle.controller.specs.declared.TickAnswer.{TickAnswer}
+use Rattle.controller.specs.declared.state.PowerOn.{PowerOn}
+use Rattle.controller.specs.declared.state.TickAnswer.{TickAnswer}
 use Rattle.controller.specs.Held.{held, heldPosition}
 use Rattle.controller.specs.Answers.{
   Answered,

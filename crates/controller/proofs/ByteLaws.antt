@@ -30,7 +30,7 @@ use Rattle.machine.specs.Commands.{number, does, drops, stores, keepsStart, obe
 use Rattle.machine.specs.Replies as machine
 use Rattle.machine.specs.Replies.{toldOf}
 use Rattle.machine.proofs.FitLaws.{Fits}
-use Rattle.controller.specs.declared.Controller.{Controller}
+use Rattle.controller.specs.declared.state.Controller.{Controller}
 use Rattle.controller.specs.Held.{held, heldHot, heldPlan, heldSettings}
 use Rattle.controller.specs.Inner.Parts.{withFlag, withHot, withNext, blockedIn}
 use Rattle.controller.specs.Inner.Start.{begunOf, startNumberOf}
@@ -47,7 +47,7 @@ use Rattle.controller.specs.Inner.Orders.{
   obeyStopDropped,
   obeyStartStored,
 }
-use Rattle.controller.specs.Inner.Told.{statusGiven, statusOf, readingsOf}
+use Rattle.controller.specs.Inner.Status.{statusGiven, statusOf, readingsOf}
 use Rattle.controller.proofs.TickLaws.{each-at}
 use Rattle.controller.proofs.StartLaws.{start-is, begun-is}
 

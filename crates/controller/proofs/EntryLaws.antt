@@ -50,11 +50,11 @@ use Rattle.machine.specs.Commands.{number}
 use Rattle.machine.specs.Replies as machine
 use Rattle.machine.proofs.UnalteredLaws.{number-line}
 use Rattle.machine.proofs.FitLaws.{Fits}
-use Rattle.controller.specs.declared.Controller.{Controller}
-use Rattle.controller.specs.declared.PowerOn.{PowerOn}
-use Rattle.controller.specs.declared.ByteAnswer.{ByteAnswer}
-use Rattle.controller.specs.declared.TickAnswer.{TickAnswer}
-use Rattle.controller.specs.declared.hot.Hot.{Hot}
+use Rattle.controller.specs.declared.state.Controller.{Controller}
+use Rattle.controller.specs.declared.state.PowerOn.{PowerOn}
+use Rattle.controller.specs.declared.state.ByteAnswer.{ByteAnswer}
+use Rattle.controller.specs.declared.state.TickAnswer.{TickAnswer}
+use Rattle.controller.specs.declared.state.Hot.{Hot}
 use Rattle.controller.specs.declared.motion.Ran.{Ran}
 use Rattle.controller.specs.declared.start.Waited.{Waited}
 use Rattle.controller.specs.Held.{held, heldHot, heldCold, heldPlan, heldPower, heldByte, heldTick}
@@ -63,7 +63,8 @@ use Rattle.controller.specs.Inner.Motion.{runsOf, heldRan, RunFits, Wire
 use Rattle.controller.specs.Inner.Watch.{takesOf, stopsOf}
 use Rattle.controller.specs.Inner.Start.{waitsOf, StartFits, WaitFits}
 use Rattle.controller.specs.Inner.Orders.{zeroWatchOf}
-use Rattle.controller.specs.Inner.Told.{readingsOf, refusedOf, refusalTo, obeyedOf, replyTo, linedOf, lineReply}
+use Rattle.controller.specs.Inner.Status.{readingsOf}
+use Rattle.controller.specs.Inner.LineEnd.{refusedOf, refusalTo, obeyedOf, replyTo, linedOf, lineReply}
 use Rattle.controller.specs.Inner.Power.{badOf, freshOf, lineWith}
 use Rattle.controller.proofs.TickLaws.{takes-is, wires-fit}
 use Rattle.controller.proofs.StartLaws.{start-fits}

@@ -15,8 +15,8 @@ use Rattle.receiver.specs.Receiver.{Receipt, heardLine, before, beforeEnd}
 use Rattle.machine.specs.State.{Machine, withLine}
 use Rattle.machine.specs.Steps.{ByteAnswer, byteStep, answered, outcomeOf}
 use Rattle.machine.specs.Calls.{Call, byte, Origin, power, given, after, run, state, buffer, bytes}
-use Rattle.controller.specs.declared.Controller.{Controller}
-use Rattle.controller.specs.declared.Gathered.{Gathered}
+use Rattle.controller.specs.declared.state.Controller.{Controller}
+use Rattle.controller.specs.declared.state.Gathered.{Gathered}
 use Rattle.controller.specs.Held.{held, heldGathered}
 use Rattle.controller.specs.Reach.{Reachable, Made}
 use Rattle.controller.specs.Answers.{Quiet}

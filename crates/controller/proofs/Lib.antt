@@ -2,7 +2,7 @@ mod CalmLaws
 mod AxisLaws
 mod RampLaws
 mod StepLaws
-mod ToldLaws
+mod LineEndLaws
 pub mod TickLaws
 pub mod StartLaws
 pub mod PulseLaws

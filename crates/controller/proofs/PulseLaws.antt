@@ -14,7 +14,7 @@ use Rattle.machine.specs.Ramp.{full, ramped, atSpeed, ended, quiet, stepped, ru
 use Rattle.machine.specs.Outputs.{word}
 use Rattle.machine.proofs.RunLaws.{master-to, step-pulse}
 use Rattle.machine.proofs.FitLaws.{Fits}
-use Rattle.controller.specs.declared.hot.Hot.{Hot}
+use Rattle.controller.specs.declared.state.Hot.{Hot}
 use Rattle.controller.specs.declared.motion.Axis.{Axis}
 use Rattle.controller.specs.declared.motion.Ran.{Ran}
 use Rattle.controller.specs.Held.{heldSettings, heldRun, heldHot}

@@ -5,10 +5,10 @@ use mathlib.Core.List.{List, [], _∷_}
 use mathlib.Core.Path.{_≡_, sym, ap}
 use Rattle.machine.specs.Calls.{Call, byte, tick, run, state}
 use Rattle.machine.specs.Steps.{byteStep, tickStep, bufferAfter}
-use Rattle.controller.specs.declared.Controller.{Controller}
-use Rattle.controller.specs.declared.PowerOn.{PowerOn}
-use Rattle.controller.specs.declared.ByteAnswer.{ByteAnswer}
-use Rattle.controller.specs.declared.TickAnswer.{TickAnswer}
+use Rattle.controller.specs.declared.state.Controller.{Controller}
+use Rattle.controller.specs.declared.state.PowerOn.{PowerOn}
+use Rattle.controller.specs.declared.state.ByteAnswer.{ByteAnswer}
+use Rattle.controller.specs.declared.state.TickAnswer.{TickAnswer}
 use Rattle.controller.specs.Held.{held, heldPower, heldByte, heldTick}
 use Rattle.controller.specs.Reach.{Reachable, Made}
 

@@ -12,9 +12,9 @@ use Rattle.machine.specs.Ramp.{full, ramped, runs}
 use Rattle.machine.specs.Stops.{takes, stops, cause}
 use Rattle.machine.specs.Steps.{Tried, untried, failed, began, tries, waits, looks, failure, ticked}
 use Rattle.machine.proofs.FitLaws.{Fits, fits-takes, fits-looks, fits-stops}
-use Rattle.controller.specs.declared.Cold.{Cold}
-use Rattle.controller.specs.declared.TickAnswer.{TickAnswer}
-use Rattle.controller.specs.declared.hot.Settings.{Settings}
+use Rattle.controller.specs.declared.state.Cold.{Cold}
+use Rattle.controller.specs.declared.state.TickAnswer.{TickAnswer}
+use Rattle.controller.specs.declared.state.Settings.{Settings}
 use Rattle.controller.specs.Held.{heldSettings, heldPlan, heldHot, heldCold, heldTick}
 use Rattle.controller.specs.Inner.Motion.{restOf, runsOf, heldRan, RunFits}
 use Rattle.controller.specs.Inner.Watch.{stopsOf}

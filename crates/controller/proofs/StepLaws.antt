@@ -17,11 +17,11 @@ use Rattle.controller.specs.declared.motion.Share.{Share}
 use Rattle.controller.specs.declared.motion.Axis.{Axis}
 use Rattle.controller.specs.declared.motion.Paced.{Paced}
 use Rattle.controller.specs.declared.motion.Ran.{Ran}
-use Rattle.controller.specs.declared.hot.Hot.{Hot}
-use Rattle.controller.specs.declared.hot.Plan.{Plan}
-use Rattle.controller.specs.declared.hot.Run.{Run}
-use Rattle.controller.specs.declared.hot.Counters.{Counters}
-use Rattle.controller.specs.declared.hot.Settings.{Settings}
+use Rattle.controller.specs.declared.state.Hot.{Hot}
+use Rattle.controller.specs.declared.state.Plan.{Plan}
+use Rattle.controller.specs.declared.state.Run.{Run}
+use Rattle.controller.specs.declared.state.Counters.{Counters}
+use Rattle.controller.specs.declared.state.Settings.{Settings}
 use Rattle.controller.specs.Inner.Parts.{travelAt, positionAt}
 use Rattle.controller.specs.Inner.Motion.{
   rampOf,

@@ -18,10 +18,10 @@ use Rattle.machine.specs.Calls.{Call, state, buffer}
 use Rattle.machine.specs.Roles.{begins, lineOf, resetBy}
 use Rattle.machine.specs.List.{effect, isPulse, travel, position, latest}
 use Rattle.machine.specs.Demand.{Holds}
-use Rattle.controller.specs.declared.Controller.{Controller}
-use Rattle.controller.specs.declared.PowerOn.{PowerOn}
-use Rattle.controller.specs.declared.ByteAnswer.{ByteAnswer}
-use Rattle.controller.specs.declared.TickAnswer.{TickAnswer}
+use Rattle.controller.specs.declared.state.Controller.{Controller}
+use Rattle.controller.specs.declared.state.PowerOn.{PowerOn}
+use Rattle.controller.specs.declared.state.ByteAnswer.{ByteAnswer}
+use Rattle.controller.specs.declared.state.TickAnswer.{TickAnswer}
 use Rattle.controller.specs.Held.{heldPower, heldTravel, heldPosition, heldByte, heldTick}
 use Rattle.controller.specs.Reach.{Reachable, Made}
 

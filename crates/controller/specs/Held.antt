@@ -17,20 +17,20 @@ use Rattle.machine.specs.Replies.{travelOf, positionOf}
 use Rattle.machine.specs.Steps as steps
 use Rattle.machine.specs.Steps.{powerOn, powerNumber}
 use Rattle.machine.specs.Calls.{bytes, from}
-use Rattle.controller.specs.declared.Controller.{Controller}
-use Rattle.controller.specs.declared.Cold.{Cold}
-use Rattle.controller.specs.declared.PowerOn.{PowerOn}
-use Rattle.controller.specs.declared.ByteAnswer.{ByteAnswer}
-use Rattle.controller.specs.declared.Gathered.{Gathered}
-use Rattle.controller.specs.declared.TickAnswer.{TickAnswer}
-use Rattle.controller.specs.declared.hot.Hot.{Hot}
-use Rattle.controller.specs.declared.hot.Settings.{Settings}
-use Rattle.controller.specs.declared.hot.Plan.{Plan}
-use Rattle.controller.specs.declared.hot.Run.{Run}
-use Rattle.controller.specs.declared.hot.Counters.{Counters}
-use Rattle.controller.specs.declared.hot.Pause.{Pause}
-use Rattle.controller.specs.declared.hot.Flags.{Flags}
-use Rattle.controller.specs.declared.hot.Wires.{Wires}
+use Rattle.controller.specs.declared.state.Controller.{Controller}
+use Rattle.controller.specs.declared.state.Cold.{Cold}
+use Rattle.controller.specs.declared.state.PowerOn.{PowerOn}
+use Rattle.controller.specs.declared.state.ByteAnswer.{ByteAnswer}
+use Rattle.controller.specs.declared.state.Gathered.{Gathered}
+use Rattle.controller.specs.declared.state.TickAnswer.{TickAnswer}
+use Rattle.controller.specs.declared.state.Hot.{Hot}
+use Rattle.controller.specs.declared.state.Settings.{Settings}
+use Rattle.controller.specs.declared.state.Plan.{Plan}
+use Rattle.controller.specs.declared.state.Run.{Run}
+use Rattle.controller.specs.declared.state.Counters.{Counters}
+use Rattle.controller.specs.declared.state.Pause.{Pause}
+use Rattle.controller.specs.declared.state.Flags.{Flags}
+use Rattle.controller.specs.declared.state.Wires.{Wires}
 
 abbrev pub heldSettings : M.Settings → Settings
 heldSettings s = record {

@@ -7,5 +7,6 @@ pub mod Watch
 pub mod Start
 pub mod Settings
 pub mod Orders
-pub mod Told
+pub mod Status
+pub mod LineEnd
 pub mod Power

@@ -4,7 +4,7 @@ use mathlib.Core.List.{List}
 use mathlib.Core.Path.{_≡_}
 use Rattle.machine.specs.State.{Machine}
 use Rattle.machine.specs.Calls.{Call, state}
-use Rattle.controller.specs.declared.Controller.{Controller}
+use Rattle.controller.specs.declared.state.Controller.{Controller}
 use Rattle.controller.specs.Held.{held}
 
 -- Some switch and some list of calls, refused ones among them, leave the controller c.

@@ -1,5 +1,5 @@
 // The blending controller (paper 01): power-on, a received byte with its lent reply buffer, a tick with its input
-// word. Its fields are private, so that only power-on and calls can make one. Each entry's answer is the machine's of
+// word. Only power-on and calls can make one. Each entry's answer is the machine's of
 // the crate `machine`, held as specs/Held.antt says; the only premise is that the controller is reachable. Assumes
 // nothing.
 ghost use mathlib.Core.List.{map};
@@ -16,145 +16,26 @@ ghost use Rattle.controller.specs.Held.{heldPower, heldGathered};
 ghost use Rattle.controller.specs.Reach.{Reachable, Made};
 ghost use Rattle.controller.specs.Answers as answered;
 ghost use Rattle.controller.specs.Answers.{Quiet, ReplyIn, Promised, TravelsOf, PositionsOf, Demand3Answers};
-ghost use Rattle.controller.specs.Inner.Power.{badOf, freshOf, lineWith};
-use crate::hot::Counters;
-use crate::hot::Flags;
-use crate::hot::Hot;
-use crate::hot::Pause;
-use crate::hot::Plan;
-use crate::hot::Run;
-use crate::hot::Settings;
-use crate::hot::Wires;
+ghost use Rattle.controller.specs.Inner.Power.{lineWith};
+pub use crate::state::ByteAnswer;
+pub use crate::state::Controller;
+pub use crate::state::Gathered;
+pub use crate::state::PowerOn;
+pub use crate::state::TickAnswer;
 use receiver::Heard;
 use receiver::Receiver;
 use reply::Position;
 use reply::Travel;
 
-mod hot;
+mod line_end;
 mod motion;
 mod orders;
+mod power;
 mod settings;
 mod start;
-mod told;
+pub mod state;
+mod status;
 mod watch;
-
-// What only bytes alter.
-pub struct Cold {
-    pub settings: Settings,
-    pub next: Plan,
-    pub line: Receiver,
-    pub switch: u8,
-}
-
-pub struct Controller {
-    hot: Hot,
-    cold: Cold,
-}
-
-// A controller as power-on leaves it, and 1 for a switch that there is none of, else 0.
-pub struct PowerOn {
-    pub controller: Controller,
-    pub number: u8,
-}
-
-// What a byte answers: the next controller, the length of the reply in the lent buffer, and the number that turned
-// the byte or its line away, told of silent lines too; 0 where nothing was.
-pub struct ByteAnswer {
-    pub controller: Controller,
-    pub length: usize,
-    pub number: u8,
-}
-
-// What a stretch of bytes answers: the next controller, and how many bytes it took.
-pub struct Gathered {
-    pub controller: Controller,
-    pub count: usize,
-}
-
-// What a tick answers: the next controller, the five pulses (-1, 0, 1), the output words of its two halves, and the
-// number of a waiting start that failed, or 3, or 0.
-pub struct TickAnswer {
-    pub controller: Controller,
-    pub first: u32,
-    pub second: u32,
-    pub pulses: [i8; 5],
-    pub number: u8,
-}
-
-fn is_bad(switch: u8) -> bool
-    ensures { λ r. ⌜ r ≡ badOf switch ⌝ }
-{
-    if 15 < switch {
-        return true;
-    }
-    switch == 12
-}
-
-// V 10,000, a 16, all else 0, watch off.
-fn fresh(switch: u8) -> Controller
-    ensures { λ r. ⌜ r ≡ freshOf switch ⌝ }
-{
-    let settings = Settings {
-        speed: 10000,
-        slope: 16,
-        dwell: 0,
-        polarity: 0,
-        low: 0,
-        high: 0,
-        watch: 0,
-    };
-    let minus = [false; 5];
-    let plan = Plan {
-        distances: [0; 5],
-        minus,
-    };
-    let counters = Counters {
-        travels: [Travel(0); 5],
-        remainders: [0; 5],
-        positions: [Position(524288); 5],
-    };
-    let run = Run {
-        length: 0,
-        gone: 0,
-        speed: 0,
-        phase: 0,
-        master: 0,
-        moving: false,
-        stopping: false,
-    };
-    let general = outputs::general(switch, 0);
-    let cells = outputs::axis_cells(switch, 0, minus);
-    let wires = Wires { general, cells };
-    let pause = Pause {
-        left: 0,
-        waiting: 0,
-    };
-    let flags = Flags {
-        wrong: false,
-        stopped: false,
-        emergency: false,
-        sensed: false,
-    };
-    let hot = Hot {
-        plan,
-        counters,
-        run,
-        wires,
-        pause,
-        inputs: 0,
-        outputs: 0,
-        watch: 0,
-        flags,
-    };
-    let line = Receiver::new();
-    let cold = Cold {
-        settings,
-        next: plan,
-        line,
-        switch,
-    };
-    Controller { hot, cold }
-}
 
 // Power-on. The theorem about every list of calls, the marked table and computed lists stand here as promises, so that
 // the gate keeps them: they speak of the machine whose held values every entry answers. The same theorem over the
@@ -167,14 +48,14 @@ pub fn power_on(switch: u8) -> PowerOn
     ensures { λ _. ⌜ Demand3Answers ⌝ }
     ensures { λ r. ⌜ Reachable (r .controller) ⌝ }
 {
-    if is_bad(switch) {
-        let controller = fresh(0);
+    if power::is_bad(switch) {
+        let controller = power::fresh(0);
         return PowerOn {
             controller,
             number: 1,
         };
     }
-    let controller = fresh(switch);
+    let controller = power::fresh(switch);
     PowerOn {
         controller,
         number: 0,
@@ -229,7 +110,7 @@ impl Controller {
                 silent,
                 ident,
                 judged,
-            } => told::lined(controller, buf, silent, ident, judged),
+            } => line_end::lined(controller, buf, silent, ident, judged),
         }
     }
 
@@ -316,7 +197,7 @@ impl Controller {
         requires { ⌜ Reachable self ⌝ }
         ensures { λ r. ⌜ Made self (λ m. r ≡ status m) ⌝ }
     {
-        told::status(self)
+        status::status(self)
     }
 
     // The speed setting in units of 0.25 Hz.

@@ -23,12 +23,12 @@ ghost use Rattle.controller.specs.Inner.Motion.{
   PaceFits,
   RunFits,
 };
-use crate::hot::Counters;
-use crate::hot::Hot;
-use crate::hot::Plan;
-use crate::hot::Run;
-use crate::hot::Settings;
-use crate::hot::Wires;
+use crate::state::Counters;
+use crate::state::Hot;
+use crate::state::Plan;
+use crate::state::Run;
+use crate::state::Settings;
+use crate::state::Wires;
 use reply::Position;
 use reply::Travel;
 

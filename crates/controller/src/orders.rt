@@ -18,11 +18,11 @@ ghost use Rattle.controller.specs.Inner.Orders.{
   zeroWatchOf,
   turnedOf,
 };
-use crate::Controller;
-use crate::hot;
-use crate::hot::Flags;
 use crate::settings;
 use crate::start;
+use crate::state;
+use crate::state::Controller;
+use crate::state::Flags;
 use line::command;
 use line::command::Command;
 use reply::Position;
@@ -208,7 +208,7 @@ pub(crate) fn turned(c: Controller, number: u8) -> Controller
     if number < 10 {
         return c;
     }
-    let wrong = hot::either(c.hot.flags.wrong, number == 14);
+    let wrong = state::either(c.hot.flags.wrong, number == 14);
     let mut next = c;
     next.hot.watch = 0;
     next.hot.flags.wrong = wrong;

@@ -3,8 +3,8 @@ ghost use mathlib.Core.Path.{_≡_};
 ghost use Prim.Native.Nat.{_<_};
 ghost use Rattle.controller.specs.Inner.Parts.{put, withSetting};
 ghost use Rattle.controller.specs.Inner.Settings.{setAxisOf, rewireOf, setSettingOf, setOutputsOf};
-use crate::Controller;
-use crate::hot::Settings;
+use crate::state::Controller;
+use crate::state::Settings;
 
 // The code of the polarity.
 const POLARITY: u8 = 12;

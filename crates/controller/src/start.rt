@@ -15,15 +15,15 @@ ghost use Rattle.controller.specs.Inner.Start.{
   StartFits,
   WaitFits,
 };
-use crate::hot;
-use crate::hot::Counters;
-use crate::hot::Flags;
-use crate::hot::Hot;
-use crate::hot::Pause;
-use crate::hot::Plan;
-use crate::hot::Run;
-use crate::hot::Settings;
-use crate::hot::Wires;
+use crate::state;
+use crate::state::Counters;
+use crate::state::Flags;
+use crate::state::Hot;
+use crate::state::Pause;
+use crate::state::Plan;
+use crate::state::Run;
+use crate::state::Settings;
+use crate::state::Wires;
 use reply::Position;
 use reply::Travel;
 
@@ -181,7 +181,7 @@ fn failed(was: Hot, number: u8) -> Hot
 {
     let told = was.flags;
     let flags = Flags {
-        wrong: hot::either(told.wrong, number == 14),
+        wrong: state::either(told.wrong, number == 14),
         stopped: told.stopped,
         emergency: told.emergency,
         sensed: told.sensed,

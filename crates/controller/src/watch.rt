@@ -11,10 +11,10 @@ ghost use Rattle.controller.specs.Inner.Watch.{
   causesOf,
   stopsOf,
 };
-use crate::hot;
-use crate::hot::Hot;
-use crate::hot::Plan;
-use crate::hot::Settings;
+use crate::state;
+use crate::state::Hot;
+use crate::state::Plan;
+use crate::state::Settings;
 
 // The watch count at which the line counts as lost: 4 s.
 const WATCH_FULL: u32 = 1000000;
@@ -43,7 +43,7 @@ pub(crate) fn takes(settings: Settings, was: Hot, word: u32) -> Hot
     ensures { λ r. ⌜ r ≡ takesOf settings was word ⌝ }
 {
     let active = inputs::emergency(settings.low, settings.high, word);
-    let emergency = hot::either(was.flags.emergency, active);
+    let emergency = state::either(was.flags.emergency, active);
     let watch = raised(was.watch);
     let mut next = was;
     next.inputs = word;
@@ -139,9 +139,9 @@ pub(crate) fn stops(settings: Settings, was: Hot) -> Hot
         was.inputs,
         was.watch,
     );
-    let stopping = hot::either(was.run.stopping, met.any);
-    let stopped = hot::either(was.flags.stopped, met.limit);
-    let sensed = hot::either(was.flags.sensed, met.sensor);
+    let stopping = state::either(was.run.stopping, met.any);
+    let stopped = state::either(was.flags.stopped, met.limit);
+    let sensed = state::either(was.flags.sensed, met.sensor);
     let mut next = was;
     next.run.stopping = stopping;
     next.flags.stopped = stopped;

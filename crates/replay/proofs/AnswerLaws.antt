@@ -14,10 +14,10 @@ use Rattle.machine.specs.State.{Machine}
 use Rattle.machine.specs.Stops.{status}
 use Rattle.machine.specs.Steps.{byteStep, tickStep, bufferAfter}
 use Rattle.machine.specs.Calls.{Call, run, state}
-use Rattle.controller.specs.declared.Controller.{Controller}
-use Rattle.controller.specs.declared.PowerOn.{PowerOn}
-use Rattle.controller.specs.declared.ByteAnswer.{ByteAnswer}
-use Rattle.controller.specs.declared.TickAnswer.{TickAnswer}
+use Rattle.controller.specs.declared.state.Controller.{Controller}
+use Rattle.controller.specs.declared.state.PowerOn.{PowerOn}
+use Rattle.controller.specs.declared.state.ByteAnswer.{ByteAnswer}
+use Rattle.controller.specs.declared.state.TickAnswer.{TickAnswer}
 use Rattle.controller.specs.Held.{held, heldPower, heldByte, heldTick, heldTravel, heldPosition}
 use Rattle.replay.specs.declared.play.Played.{Played}
 use Rattle.replay.specs.Digest.{mixed, tickCode, atAxis, mixedBytes, mixedAxes, travelAt, placeAt}

@@ -28,7 +28,7 @@ use Rattle.machine.specs.Steps.{
   byteStep,
   bufferAfter,
 }
-use Rattle.controller.specs.declared.ByteAnswer.{ByteAnswer}
+use Rattle.controller.specs.declared.state.ByteAnswer.{ByteAnswer}
 use Rattle.controller.specs.Held.{heldByte}
 use Rattle.session.specs.Session.{shownByte, shown, buffer, Passed}
 use Rattle.session.proofs.TextLaws.{put-snoc}

@@ -15,7 +15,7 @@ use Rattle.block.proofs.Buffers.{stores, over-nil}
 use Rattle.machine.specs.State.{Machine}
 use Rattle.machine.specs.Steps.{powerOn, byteStep}
 use Rattle.machine.specs.Calls.{Call, byte, run, state}
-use Rattle.controller.specs.declared.Controller.{Controller}
+use Rattle.controller.specs.declared.state.Controller.{Controller}
 use Rattle.controller.specs.Held.{held}
 use Rattle.controller.specs.Reach.{Reachable}
 use Rattle.session.specs.declared.asked.Asked.{Asked}

@@ -21,7 +21,7 @@ use Rattle.machine.specs.Starts.{outside}
 use Rattle.machine.specs.Calls.{Call, tick, run, state}
 use Rattle.machine.specs.List.{signed, position, latest}
 use Rattle.machine.proofs.DemandLaws.{demand-3}
-use Rattle.controller.specs.declared.Controller.{Controller}
+use Rattle.controller.specs.declared.state.Controller.{Controller}
 use Rattle.controller.specs.Held.{held}
 use Rattle.session.specs.declared.ticks.Ran.{Ran}
 use Rattle.session.specs.Ticks.{afterTicks, sumOf, numberIn, ranOf, tickedOf, Room, Rooms, Small}

@@ -11,7 +11,7 @@ use Rattle.machine.specs.State.{Machine}
 use Rattle.machine.specs.Steps as steps
 use Rattle.machine.specs.Steps.{powerOn, byteStep}
 use Rattle.machine.specs.Calls.{Call, state}
-use Rattle.controller.specs.declared.Controller.{Controller}
+use Rattle.controller.specs.declared.state.Controller.{Controller}
 use Rattle.controller.specs.Held.{held}
 use Rattle.session.specs.declared.asked.Asked.{Asked}
 use Rattle.session.specs.declared.asked.Asked.the-variants.{Malformed, Ticks}

@@ -8,7 +8,7 @@ use Rattle.machine.specs.Witness.{Witness}
 use Rattle.machine.proofs.DemandLaws.{demand-3}
 use Rattle.machine.proofs.MarkedLaws.{marked}
 use Rattle.machine.proofs.WitnessLaws.{witness}
-use Rattle.controller.specs.declared.PowerOn.{PowerOn}
+use Rattle.controller.specs.declared.state.PowerOn.{PowerOn}
 use Rattle.controller.specs.Held.{heldPower}
 use Rattle.controller.specs.Reach.{Reachable}
 use Rattle.controller.specs.Answers.{Demand3Answers}

@@ -12,12 +12,12 @@ use Rattle.machine.specs.Outputs.{word}
 use Rattle.machine.specs.Ramp.{full, braked, towards}
 use Rattle.reply.specs.declared.Travel.{Travel}
 use Rattle.reply.specs.declared.Position.{Position}
-use Rattle.controller.specs.declared.hot.Hot.{Hot}
-use Rattle.controller.specs.declared.hot.Settings.{Settings}
-use Rattle.controller.specs.declared.hot.Plan.{Plan}
-use Rattle.controller.specs.declared.hot.Run.{Run}
-use Rattle.controller.specs.declared.hot.Counters.{Counters}
-use Rattle.controller.specs.declared.hot.Wires.{Wires}
+use Rattle.controller.specs.declared.state.Hot.{Hot}
+use Rattle.controller.specs.declared.state.Settings.{Settings}
+use Rattle.controller.specs.declared.state.Plan.{Plan}
+use Rattle.controller.specs.declared.state.Run.{Run}
+use Rattle.controller.specs.declared.state.Counters.{Counters}
+use Rattle.controller.specs.declared.state.Wires.{Wires}
 use Rattle.controller.specs.declared.motion.Share.{Share}
 use Rattle.controller.specs.declared.motion.Axis.{Axis}
 use Rattle.controller.specs.declared.motion.Paced.{Paced}

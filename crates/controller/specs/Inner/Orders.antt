@@ -8,8 +8,8 @@ use Rattle.inputs.specs.Inputs.{activeAt}
 use Rattle.line.specs.declared.command.Command.{Command}
 use Rattle.line.specs.declared.command.Command.the-variants as C
 use Rattle.line.specs.Ranges.{isWithin}
-use Rattle.controller.specs.declared.Controller.{Controller}
-use Rattle.controller.specs.declared.hot.Hot.{Hot}
+use Rattle.controller.specs.declared.state.Controller.{Controller}
+use Rattle.controller.specs.declared.state.Hot.{Hot}
 use Rattle.controller.specs.Inner.Parts.{
   withCounters,
   withStopping,

@@ -11,15 +11,15 @@ use Rattle.outputs.specs.Outputs.{restOf, fireOf, stillOf}
 use Rattle.receiver.specs.declared.Receiver.{Receiver}
 use Rattle.reply.specs.declared.Travel.{Travel}
 use Rattle.reply.specs.declared.Position.{Position}
-use Rattle.controller.specs.declared.Controller.{Controller}
-use Rattle.controller.specs.declared.hot.Hot.{Hot}
-use Rattle.controller.specs.declared.hot.Settings.{Settings}
-use Rattle.controller.specs.declared.hot.Plan.{Plan}
-use Rattle.controller.specs.declared.hot.Run.{Run}
-use Rattle.controller.specs.declared.hot.Counters.{Counters}
-use Rattle.controller.specs.declared.hot.Pause.{Pause}
-use Rattle.controller.specs.declared.hot.Flags.{Flags}
-use Rattle.controller.specs.declared.hot.Wires.{Wires}
+use Rattle.controller.specs.declared.state.Controller.{Controller}
+use Rattle.controller.specs.declared.state.Hot.{Hot}
+use Rattle.controller.specs.declared.state.Settings.{Settings}
+use Rattle.controller.specs.declared.state.Plan.{Plan}
+use Rattle.controller.specs.declared.state.Run.{Run}
+use Rattle.controller.specs.declared.state.Counters.{Counters}
+use Rattle.controller.specs.declared.state.Pause.{Pause}
+use Rattle.controller.specs.declared.state.Flags.{Flags}
+use Rattle.controller.specs.declared.state.Wires.{Wires}
 
 -- The settings with the one of this code replaced: P 8 speed, 9 slope, A dwell, B watch, C polarity; Q D low-ON, E
 -- high-ON.

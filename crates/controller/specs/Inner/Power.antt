@@ -1,4 +1,4 @@
--- What power-on makes, and the characters received: src/lib.rt on held values.
+-- What power-on makes, and the characters received: src/power.rt and src/lib.rt on held values.
 use Prim.Native.Nat.{ℕ}
 use mathlib.Core.Bool.{Bool, false, _||_}
 use mathlib.Core.List.{[]}
@@ -8,8 +8,8 @@ use Rattle.outputs.specs.declared.Cells.{Cells}
 use Rattle.outputs.specs.Outputs.{generalOf}
 use Rattle.receiver.specs.declared.Receiver.{Receiver}
 use Rattle.receiver.specs.Receiver.{holding}
-use Rattle.controller.specs.declared.Controller.{Controller}
-use Rattle.controller.specs.declared.hot.Plan.{Plan}
+use Rattle.controller.specs.declared.state.Controller.{Controller}
+use Rattle.controller.specs.declared.state.Plan.{Plan}
 use Rattle.controller.specs.Inner.Parts.{runOf, pauseOf, hotOf, controllerOf, cellsOf}
 
 -- There is no such switch.

@@ -4,7 +4,7 @@ use mathlib.Core.Bool.{Bool, cond}
 use lib.Dec.{eqb}
 use lib.ListN.{set}
 use Rattle.outputs.specs.Outputs.{generalOf}
-use Rattle.controller.specs.declared.Controller.{Controller}
+use Rattle.controller.specs.declared.state.Controller.{Controller}
 use Rattle.controller.specs.Inner.Parts.{withWires, withOutputs, withHot, withSetting, withNext, cellsOf}
 
 -- The next move's distance and direction of an axis.

@@ -8,10 +8,10 @@ use Rattle.laws.specs.Axes.{each, some}
 use Rattle.inputs.specs.Inputs.{activeAt}
 use Rattle.outputs.specs.declared.Cells.{Cells}
 use Rattle.reply.specs.declared.Position.{Position}
-use Rattle.controller.specs.declared.hot.Hot.{Hot}
-use Rattle.controller.specs.declared.hot.Settings.{Settings}
-use Rattle.controller.specs.declared.hot.Plan.{Plan}
-use Rattle.controller.specs.declared.hot.Counters.{Counters}
+use Rattle.controller.specs.declared.state.Hot.{Hot}
+use Rattle.controller.specs.declared.state.Settings.{Settings}
+use Rattle.controller.specs.declared.state.Plan.{Plan}
+use Rattle.controller.specs.declared.state.Counters.{Counters}
 use Rattle.controller.specs.declared.start.Waited.{Waited}
 use Rattle.controller.specs.Inner.Parts.{
   mark,

@@ -4,9 +4,9 @@ use mathlib.Core.Bool.{Bool, false, cond, not, _&&_, _||_}
 use lib.Dec.{leb, eqb}
 use lib.Bits.{bitAnd}
 use Rattle.inputs.specs.Inputs.{activeAt}
-use Rattle.controller.specs.declared.hot.Hot.{Hot}
-use Rattle.controller.specs.declared.hot.Settings.{Settings}
-use Rattle.controller.specs.declared.hot.Plan.{Plan}
+use Rattle.controller.specs.declared.state.Hot.{Hot}
+use Rattle.controller.specs.declared.state.Settings.{Settings}
+use Rattle.controller.specs.declared.state.Plan.{Plan}
 use Rattle.controller.specs.declared.watch.Met.{Met}
 use Rattle.controller.specs.Inner.Parts.{
   withStopping,

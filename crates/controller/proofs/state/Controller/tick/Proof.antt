@@ -1,0 +1,95 @@
+-- `tick` meets its contract: each return, by the tests and the answers that led there. Assumes nothing.
+use borrow.Author.Needs.{needs}
+use Rattle.machine.specs.Calls.{state}
+use Rattle.machine.proofs.FitLaws.{fits}
+use Rattle.controller.proofs.EntryLaws.{
+  took,
+  take-fits,
+  waited-is,
+  stop-is,
+  stop-fits,
+  run-was,
+  run-wires,
+  tick-is,
+  tick-refused,
+}
+use Rattle.controller.proofs.ReachLaws.{tick-answers}
+use Rattle.controller.proofs.state.Controller.tick.Statement.{statement}
+use Rattle.controller.proofs.state.Controller.tick.Tie as tie
+
+returns : tie.Need-returns
+returns c =
+    let q = c .before in
+    tick-answers (q .args .self) (q .pre) (q .args .word) _
+    (λ s h e. tick-refused (state s h) (q .args .word) (fits s h) (q .args .self) e (c .if1 .taken))
+
+takes-requires : tie.Need-takes-requires
+takes-requires c κs = search needs
+
+waits-requires : tie.Need-waits-requires
+waits-requires c κs =
+    let q = c .before .before .before .before .before .before in
+    let r = q .pre in
+    let m = state (r .switch) (r .history) in
+    let f = fits (r .switch) (r .history) in
+    take-fits m (q .args .word) f (q .args .self) (r .made) _
+    (took m (q .args .word) f (q .args .self) (r .made) _ (c .takes .ensures))
+
+stops-requires : tie.Need-stops-requires
+stops-requires c κs = search needs
+
+runs-requires : tie.Need-runs-requires
+runs-requires c κs =
+    let q = c .before .before .before .before .before .before .before .before .before in
+    let r = q .pre in
+    let m = state (r .switch) (r .history) in
+    let f = fits (r .switch) (r .history) in
+    let t = took m (q .args .word) f (q .args .self) (r .made) _ (c .before .before .before .takes .ensures) in
+    let w = waited-is m (q .args .word) f (q .args .self) (r .made) _ _ t (c .before .before .waits .ensures) in
+    stop-fits m (q .args .word) f (q .args .self) (r .made) _
+    (stop-is m (q .args .word) f (q .args .self) (r .made) _ _ w (c .stops .ensures))
+
+rest-requires : tie.Need-rest-requires
+rest-requires c κs =
+    let v = c .before .before in
+    let p = v .before in
+    let w = p .before .before in
+    let t = w .before in
+    let q = t .before .before .before .before .before .before in
+    let r = q .pre in
+    let m = state (r .switch) (r .history) in
+    let f = fits (r .switch) (r .history) in
+    let et = took m (q .args .word) f (q .args .self) (r .made) _ (t .takes .ensures) in
+    let ew = waited-is m (q .args .word) f (q .args .self) (r .made) _ _ et (w .waits .ensures) in
+    let es = stop-is m (q .args .word) f (q .args .self) (r .made) _ _ ew (p .stops .ensures) in
+    run-wires m (q .args .word) f (q .args .self) (r .made) _
+    (run-was m (q .args .word) f (q .args .self) (r .made) _ _ es (v .runs .ensures))
+
+returns-2 : tie.Need-returns-2
+returns-2 c =
+    let z = c .before in
+    let v = z .before .before .before in
+    let p = v .before in
+    let w = p .before .before in
+    let t = w .before in
+    let g = t .before .before .before .before .before in
+    let q = g .before in
+    tick-answers (q .args .self) (q .pre) (q .args .word) _
+    (λ s h e.
+    let et = took (state s h) (q .args .word) (fits s h) (q .args .self) e _ (t .takes .ensures) in
+    let ew = waited-is (state s h) (q .args .word) (fits s h) (q .args .self) e _ _ et (w .waits .ensures) in
+    let es = stop-is (state s h) (q .args .word) (fits s h) (q .args .self) e _ _ ew (p .stops .ensures) in
+    let er = run-was (state s h) (q .args .word) (fits s h) (q .args .self) e _ _ es (v .runs .ensures) in
+    tick-is (state s h) (q .args .word) (fits s h) (q .args .self) e _ _ _ (g .if1 .left) ew er (z .rest .ensures))
+
+pub tick-spec : {M : Type 1} → statement M
+tick-spec =
+    tie.close
+    (tie.spec
+    returns
+    takes-requires
+    waits-requires
+    stops-requires
+    runs-requires
+    rest-requires
+    returns-2)

@@ -1,0 +1,50 @@
+-- The end of a line and its reply: src/line_end.rt on held values.
+use Prim.Native.Nat.{ℕ}
+use mathlib.Core.Bool.{Bool, cond}
+use mathlib.Core.List.{List, []}
+use lib.Dec.{eqb}
+use lib.ListN.{length}
+use Rattle.digits.specs.declared.Ident.{Ident}
+use Rattle.line.specs.declared.command.Command.{Command}
+use Rattle.line.specs.declared.Judged.{Judged}
+use Rattle.line.specs.declared.Judged.the-variants.{Accepted, Refused}
+use Rattle.reply.specs.Reply.{toldBy, replyOf, refusalOf}
+use Rattle.controller.specs.declared.state.Controller.{Controller}
+use Rattle.controller.specs.declared.state.ByteAnswer.{ByteAnswer}
+use Rattle.controller.specs.Inner.Orders.{numberOf, doesOf, zeroWatchOf, turnedOf}
+use Rattle.controller.specs.Inner.Status.{readingsOf}
+
+-- The reply to a line turned away.
+abbrev pub refusalTo : Controller → Bool → Ident → ℕ → List ℕ
+refusalTo c silent ident n = cond silent [] (refusalOf (c .cold .switch) n ident)
+
+-- A line turned away.
+abbrev pub refusedOf : Controller → Bool → Ident → ℕ → ByteAnswer
+refusedOf c silent ident n =
+    record { controller = turnedOf c n; length = length (refusalTo c silent ident n); number = n }
+
+-- The reply to a line accepted, made from the readings before it.
+abbrev pub replyTo : Controller → Bool → Ident → Command → ℕ → List ℕ
+replyTo c silent ident command digits = cond silent [] (replyOf (toldBy (readingsOf c)) command digits ident)
+
+-- A line accepted.
+abbrev pub obeyedOf : Controller → Bool → Ident → Command → ℕ → ByteAnswer
+obeyedOf c silent ident command digits = record {
+  controller = zeroWatchOf (doesOf c command);
+  length = length (replyTo c silent ident command digits);
+  number = 0;
+}
+
+-- A line that has ended.
+abbrev pub linedOf : Controller → Bool → Ident → Judged → ByteAnswer
+linedOf c silent ident (Refused n) = refusedOf c silent ident n
+linedOf c silent ident (Accepted command digits) =
+    cond (eqb (numberOf c command) 0) (obeyedOf c silent ident command digits)
+    (refusedOf c silent ident (numberOf c command))
+
+-- Its reply.
+abbrev pub lineReply : Controller → Bool → Ident → Judged → List ℕ
+lineReply c silent ident (Refused n) = refusalTo c silent ident n
+lineReply c silent ident (Accepted command digits) =
+    cond (eqb (numberOf c command) 0) (replyTo c silent ident command digits)
+    (refusalTo c silent ident (numberOf c command))

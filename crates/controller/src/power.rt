@@ -1,0 +1,92 @@
+// What power-on makes (paper 01, "Power-on").
+ghost use mathlib.Core.Path.{_≡_};
+ghost use Rattle.controller.specs.Inner.Power.{badOf, freshOf};
+use crate::state::Cold;
+use crate::state::Controller;
+use crate::state::Counters;
+use crate::state::Flags;
+use crate::state::Hot;
+use crate::state::Pause;
+use crate::state::Plan;
+use crate::state::Run;
+use crate::state::Settings;
+use crate::state::Wires;
+use receiver::Receiver;
+use reply::Position;
+use reply::Travel;
+
+// There is no switch over 15, and none that is 12.
+pub(crate) fn is_bad(switch: u8) -> bool
+    ensures { λ r. ⌜ r ≡ badOf switch ⌝ }
+{
+    if 15 < switch {
+        return true;
+    }
+    switch == 12
+}
+
+// V 10,000, a 16, all else 0, watch off.
+pub(crate) fn fresh(switch: u8) -> Controller
+    ensures { λ r. ⌜ r ≡ freshOf switch ⌝ }
+{
+    let settings = Settings {
+        speed: 10000,
+        slope: 16,
+        dwell: 0,
+        polarity: 0,
+        low: 0,
+        high: 0,
+        watch: 0,
+    };
+    let minus = [false; 5];
+    let plan = Plan {
+        distances: [0; 5],
+        minus,
+    };
+    let counters = Counters {
+        travels: [Travel(0); 5],
+        remainders: [0; 5],
+        positions: [Position(524288); 5],
+    };
+    let run = Run {
+        length: 0,
+        gone: 0,
+        speed: 0,
+        phase: 0,
+        master: 0,
+        moving: false,
+        stopping: false,
+    };
+    let general = outputs::general(switch, 0);
+    let cells = outputs::axis_cells(switch, 0, minus);
+    let wires = Wires { general, cells };
+    let pause = Pause {
+        left: 0,
+        waiting: 0,
+    };
+    let flags = Flags {
+        wrong: false,
+        stopped: false,
+        emergency: false,
+        sensed: false,
+    };
+    let hot = Hot {
+        plan,
+        counters,
+        run,
+        wires,
+        pause,
+        inputs: 0,
+        outputs: 0,
+        watch: 0,
+        flags,
+    };
+    let line = Receiver::new();
+    let cold = Cold {
+        settings,
+        next: plan,
+        line,
+        switch,
+    };
+    Controller { hot, cold }
+}

@@ -1,0 +1,128 @@
+// The controller in parts: what a tick may alter, what only bytes alter; and what the entries answer. `Run` and `Pause`
+// have no hole behind their last field: the compiler copies a hole by itself in every tick.
+ghost use mathlib.Core.Path.{_≡_};
+ghost use mathlib.Core.Bool.{_||_};
+use outputs::Cells;
+use receiver::Receiver;
+use reply::Position;
+use reply::Travel;
+
+// Speed in units of 0.25 Hz, slope in units of 1.25 kHz/s, dwell in ms, polarity, the two input settings, watch.
+pub struct Settings {
+    pub speed: u32,
+    pub slope: u32,
+    pub dwell: u32,
+    pub polarity: u32,
+    pub low: u32,
+    pub high: u32,
+    pub watch: u32,
+}
+
+// A distance and a direction for each axis; true is minus.
+pub struct Plan {
+    pub distances: [u32; 5],
+    pub minus: [bool; 5],
+}
+
+// The latest move: the master's distance and travel, the speed in fiftieths of a unit, the phase.
+pub struct Run {
+    pub length: u32,
+    pub gone: u32,
+    pub speed: u32,
+    pub phase: u32,
+    pub master: u16,
+    pub moving: bool,
+    pub stopping: bool,
+}
+
+// What each axis counts. A remainder is what the master's travel times the distance leaves when divided by the length.
+pub struct Counters {
+    pub travels: [Travel; 5],
+    pub remainders: [u32; 5],
+    pub positions: [Position; 5],
+}
+
+// The ticks of the dwell that are left, and the waiting start: 0, or its master and 1.
+pub struct Pause {
+    pub left: u32,
+    pub waiting: u32,
+}
+
+// Status bits 2, 3, 5 and 6.
+pub struct Flags {
+    pub wrong: bool,
+    pub stopped: bool,
+    pub emergency: bool,
+    pub sensed: bool,
+}
+
+// The output words by their parts, kept ready.
+pub struct Wires {
+    pub general: u32,
+    pub cells: Cells,
+}
+
+pub struct Hot {
+    pub plan: Plan,
+    pub counters: Counters,
+    pub run: Run,
+    pub wires: Wires,
+    pub pause: Pause,
+    pub inputs: u32,
+    pub outputs: u32,
+    pub watch: u32,
+    pub flags: Flags,
+}
+
+// What only bytes alter.
+pub struct Cold {
+    pub settings: Settings,
+    pub next: Plan,
+    pub line: Receiver,
+    pub switch: u8,
+}
+
+// Its fields are the crate's own, so that only power-on and calls can make one.
+pub struct Controller {
+    pub(crate) hot: Hot,
+    pub(crate) cold: Cold,
+}
+
+// A controller as power-on leaves it, and 1 for a switch that there is none of, else 0.
+pub struct PowerOn {
+    pub controller: Controller,
+    pub number: u8,
+}
+
+// What a byte answers: the next controller, the length of the reply in the lent buffer, and the number that turned
+// the byte or its line away, told of silent lines too; 0 where nothing was.
+pub struct ByteAnswer {
+    pub controller: Controller,
+    pub length: usize,
+    pub number: u8,
+}
+
+// What a stretch of bytes answers: the next controller, and how many bytes it took.
+pub struct Gathered {
+    pub controller: Controller,
+    pub count: usize,
+}
+
+// What a tick answers: the next controller, the five pulses (-1, 0, 1), the output words of its two halves, and the
+// number of a waiting start that failed, or 3, or 0.
+pub struct TickAnswer {
+    pub controller: Controller,
+    pub first: u32,
+    pub second: u32,
+    pub pulses: [i8; 5],
+    pub number: u8,
+}
+
+pub(crate) fn either(a: bool, b: bool) -> bool
+    ensures { λ r. ⌜ r ≡ a || b ⌝ }
+{
+    if a {
+        return true;
+    }
+    b
+}
