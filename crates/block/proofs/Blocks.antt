@@ -71,12 +71,6 @@ module _ (letters numbers : List ℕ) (switch : ℕ) (ident : Ident) where
   pub row-most : length (rowOf 12 letters numbers switch ident) ≤ 120
   row-most = omega (arith, length-row 12, length-most ident)
 
-  pub row-absent : ident ≡ Absent → length (rowOf 12 letters numbers switch ident) ≡ 108
-  row-absent e = length-row 12 ∙ ap (λ (i : Ident). 12 * lengthWith i) e
-
-  pub row-given : (c : ℕ) → ident ≡ Given c → length (rowOf 12 letters numbers switch ident) ≡ 120
-  row-given c e = length-row 12 ∙ ap (λ (i : Ident). 12 * lengthWith i) e
-
 -- ---- the stores that write a block
 
 -- A letter, the switch's digit s, the six digits d, and what ends the block.

@@ -2,13 +2,12 @@
 -- is handed back. Assumes nothing.
 use Prim.Native.Nat.{ℕ, _+_, _-_, _≤_, _<_}
 use mathlib.Core.List.{List, [], _++_, append-assoc, append-nil}
-use mathlib.Core.Path.{_≡_, refl, sym, ap, _∙_}
+use mathlib.Core.Path.{_≡_, refl, sym, _∙_}
 use native.Mathlib.Nat.{zero-add}
 use native.Mathlib.Omega.{arith}
 use borrow.Author.Tests.{le-leb, lt-leb}
-use lib.ListN.{length, take, drop, length-append, length-take, length-drop, drop-of-length-le}
+use lib.ListN.{length, take, drop, length-append, length-drop, drop-of-length-le}
 use lib.Seq.{sets, sets-eq, take-all, take-append-seam, drop-append-seam, drop-drop}
-use Rattle.laws.proofs.Pick.{by-le}
 use Rattle.block.specs.Block.{over, put, laid, laidLength, frontOf}
 
 -- ---- over the front
@@ -47,10 +46,6 @@ pub put-over : (a b d : List ℕ) → put (length a) b (over a d) ≡ over (a ++
 unfolding put over
 put-over a b d = rw (take-append-seam, drop-append-seam, length-append, drop-drop, append-assoc)
 
-pub length-put : (at : ℕ) (s d : List ℕ) → at + length s ≤ length d → length (put at s d) ≡ length d
-unfolding put over
-length-put at s d h = rw (length-append, length-append, length-take, length-drop, length-drop) (omega arith)
-
 -- The part of d from the place at on comes back into d with s over its front.
 pub part-over : (at : ℕ) (s d part : List ℕ) → part ≡ over s (take (length d - at) (drop at d))
     → take at d ++ (part ++ drop (length d - at) (drop at d)) ≡ put at s d
@@ -83,13 +78,6 @@ pub with-room : (at : ℕ) (s d : List ℕ) (n : ℕ) (buf : List ℕ) → at + 
     → buf ≡ put at s d → (n ≡ laidLength at s d) × (buf ≡ laid at s d)
 with-room at s d n buf h p q = (p ∙ sym (laid-length at s d h), q ∙ sym (laid-put at s d h))
 
--- The buffer keeps its length.
-pub length-laid : (at : ℕ) (s d : List ℕ) → length (laid at s d) ≡ length d
-unfolding laid
-length-laid at s d =
-    by-le (λ (x : List ℕ). length x ≡ length d) (at + length s) (length d) (put at s d) d
-    (λ h. length-put at s d h) (λ h. refl)
-
 -- ---- laid at the front, with room
 
 pub laid-over : (s d : List ℕ) → length s ≤ length d → laid 0 s d ≡ over s d
@@ -97,11 +85,3 @@ laid-over s d h = laid-put 0 s d (omega arith) ∙ put-front s d
 
 pub laid-over-length : (s d : List ℕ) → length s ≤ length d → laidLength 0 s d ≡ length s
 laid-over-length s d h = laid-length 0 s d (omega arith)
-
--- The front part that a reply fills is the reply.
-pub front-laid : (s d : List ℕ) → length s ≤ length d → frontOf (laid 0 s d) (length s) ≡ s
-front-laid s d h = ap (λ (x : List ℕ). frontOf x (length s)) (laid-over s d h) ∙ front-over s d h
-
-pub front-written : (s d : List ℕ) (n : ℕ) (buf : List ℕ) → length s ≤ length d → n ≡ laidLength 0 s d
-    → buf ≡ laid 0 s d → frontOf buf n ≡ s
-front-written s d n buf h p q = rw (q, p, laid-over-length s d h) (front-laid s d h)

@@ -46,7 +46,7 @@ heard-most m b Character = omega arith
 heard-most m b (Line silent ident j) = decided-most m b silent ident j
 
 -- A buffer under 120 bytes gets none.
-reply-room : (m : Machine) (b : ℕ) (d : List ℕ) → length (byteStep m b d .reply) ≤ length d
+pub reply-room : (m : Machine) (b : ℕ) (d : List ℕ) → length (byteStep m b d .reply) ≤ length d
 reply-room m b d =
     by-bool (λ (o : Outcome). length (answered m b o .reply) ≤ length d) (ltb (length d) 120) _ _
     (λ e. omega arith)

@@ -51,6 +51,9 @@ quotients m e n g a c b d p q =
     let r : a * e * (n * d) ≡ a * e * (b * g) = ap (λ (z : ℕ). a * e * z) q in
     omega arith
 
+apart : (n : ℕ) → 0 < n → n ≡ 0 → ⊥
+apart n h e = omega arith
+
 pub div-of : (f : Format) (x y : Float) (a c b d : ℕ) → 0 < c → 0 < b → HasValue x false a c → HasValue y false b d
     → div f x y ≡ round f false (a * d) (c * b)
 unfolding div
@@ -64,9 +67,6 @@ div-of f (fin false m e) (fin false n g) a c b d C B h k =
     ∙ round-same f false (m * up e * down g) (n * up g * down e) (a * d) (c * b)
     (mul-pos (mul-pos N (up-pos g)) (down-pos e)) (mul-pos C B)
     (quotients (m * up e) (down e) (n * up g) (down g) a c b d (h .1) (k .1))
-  where
-    apart : (n : ℕ) → 0 < n → n ≡ 0 → ⊥
-    apart n h e = omega arith
 
 -- ---- quarters
 
@@ -127,9 +127,6 @@ eq-value (fin false m e) (fin true n g) a c A C h t =
     let none = eqb (m * up e * down g) 0 in
     absurd (apart (m * up e * down g) (mul-pos (first-pos (m * up e) c above) (down-pos g))
     (eqb→eq (m * up e * down g) 0 (and-r same none t)))
-  where
-    apart : (n : ℕ) → 0 < n → n ≡ 0 → ⊥
-    apart n h e = omega arith
 eq-value (fin false m e) (fin false n g) a c A C h t =
     let same = and-l (eqb (m * up e * down g) (n * up g * down e)) true t in (
       refl,

@@ -1,5 +1,5 @@
--- A list of calls in which a start is stored with status bits 3 and 6 set: those bits are set by stops and cleared where
--- a move begins, and storing a start is neither.
+-- A list of calls in which a start is stored with status bits 3 and 6 set: stops set those bits and a move that begins
+-- clears them, and storing a start is neither.
 use Prim.Native.Nat.{ℕ}
 use mathlib.Core.List.{List, [], _∷_}
 use mathlib.Core.Path.{_≡_}
@@ -7,8 +7,8 @@ use Rattle.machine.specs.State.{start}
 use Rattle.machine.specs.Stops.{status}
 use Rattle.machine.specs.Calls.{Call, tick, state, line, lines}
 
--- With a dwell of 1 ms and the sensor high-ON a move begins with master 2, order 9 sets bit 3, and the sensor, active in
--- the next tick, bit 6. That tick ends the move, and the dwell runs.
+-- With a dwell of 1 ms and the sensor high-ON a move begins with master 2, order 9 sets bit 3, and the sensor, active
+-- in the next tick, bit 6. That tick ends the move, and the dwell runs.
 abbrev pub flagged : List Call
 flagged =
     tick 8192

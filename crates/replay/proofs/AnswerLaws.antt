@@ -4,9 +4,9 @@ use native.Mathlib.Omega.{arith}
 use mathlib.Core.Bool.{Bool, true, false, cond}
 use mathlib.Core.List.{List, _∷_}
 use mathlib.Core.Path.{_≡_, refl, sym, ap, subst, _∙_}
-use lib.ListN.{length, take, drop, replicate, length-append, length-replicate}
+use lib.ListN.{length, take, replicate, length-replicate}
 use Rattle.laws.specs.Axes.{each}
-use Rattle.block.specs.Block.{over, frontOf}
+use Rattle.block.specs.Block.{frontOf}
 use Rattle.block.proofs.Buffers.{front-over}
 use Rattle.reply.specs.declared.Travel.{Travel}
 use Rattle.reply.specs.declared.Position.{Position}
@@ -18,6 +18,7 @@ use Rattle.controller.specs.declared.state.Controller.{Controller}
 use Rattle.controller.specs.declared.state.PowerOn.{PowerOn}
 use Rattle.controller.specs.declared.state.ByteAnswer.{ByteAnswer}
 use Rattle.controller.specs.declared.state.TickAnswer.{TickAnswer}
+use Rattle.controller.proofs.FrontLaws.{reply-room}
 use Rattle.controller.specs.Held.{held, heldPower, heldByte, heldTick, heldTravel, heldPosition}
 use Rattle.replay.specs.declared.play.Played.{Played}
 use Rattle.replay.specs.Digest.{mixed, tickCode, atAxis, mixedBytes, mixedAxes, travelAt, placeAt}
@@ -43,18 +44,10 @@ tick-is s h w g a n r e p q = λ i. record {
     code : n ≡ tickCode (tickStep (state s h) w .pulse) (tickStep (state s h) w .number)
     code = p ∙ ap (λ (x : TickAnswer). tickCode (atAxis (x .pulses)) (x .number)) e
 
--- A reply that leaves a buffer as long as it was is no longer than the buffer.
-pub reply-room : (m : Machine) (b : ℕ) (d : List ℕ) (a : ByteAnswer) (x : List ℕ) → a ≡ heldByte (byteStep m b d)
-    → x ≡ bufferAfter (byteStep m b d) d → length x ≡ length d → a .length ≤ length d
-unfolding over
-reply-room m b d a x e l k =
-    let reply = byteStep m b d .reply in
-    omega (
-      arith,
-      ap (λ (y : ByteAnswer). y .length) e,
-      ap length l,
-      length-append reply (drop (length reply) d),
-    )
+-- The reply has room in the buffer.
+pub answer-room : (m : Machine) (b : ℕ) (d : List ℕ) (a : ByteAnswer) → a ≡ heldByte (byteStep m b d)
+    → a .length ≤ length d
+answer-room m b d a e = subst (λ (y : ByteAnswer). y .length ≤ length d) (sym e) (reply-room m b d)
 
 module _ (s : ℕ) (h : List Call) (b : ℕ) (d : List ℕ) (g : ℕ) (a : ByteAnswer) (x : List ℕ) (n r : ℕ)
     (e : a ≡ heldByte (byteStep (state s h) b d)) (l : x ≡ bufferAfter (byteStep (state s h) b d) d)
@@ -63,26 +56,21 @@ module _ (s : ℕ) (h : List Call) (b : ℕ) (d : List ℕ) (g : ℕ) (a : ByteA
   answered = p ∙ ap (λ (y : ByteAnswer). mixed g (y .length) (y .number) 0) e
 
   -- The whole buffer counts, or its front part, which is the reply.
-  pub byte-part : (whole : Bool) (y : List ℕ) → length x ≡ length d → y ≡ cond whole x (frontOf x (a .length))
+  pub byte-part : (whole : Bool) (y : List ℕ) → y ≡ cond whole x (frontOf x (a .length))
       → r ≡ mixedBytes n y
       → _≡_ {A = Played} (record { controller = a .controller; digest = r }) (heldSeen s (sent s b whole d (seen h g)))
   unfolding run
-  byte-part true y k f q = λ i. record {
+  byte-part true y f q = λ i. record {
     controller = e i .controller;
     digest = (q ∙ (λ j. mixedBytes (answered j) ((f ∙ l) j))) i;
   }
-  byte-part false y k f q = λ i. record {
+  byte-part false y f q = λ i. record {
     controller = e i .controller;
     digest = (q ∙ (λ j. mixedBytes (answered j) ((f ∙ front) j))) i;
   }
     where
-      room : a .length ≤ length d
-      room = reply-room (state s h) b d a x e l k
-
       front : frontOf x (a .length) ≡ byteStep (state s h) b d .reply
-      front =
-          (λ i. frontOf (l i) (e i .length))
-          ∙ front-over (byteStep (state s h) b d .reply) d (subst (λ (y : ByteAnswer). y .length ≤ length d) e room)
+      front = (λ i. frontOf (l i) (e i .length)) ∙ front-over (byteStep (state s h) b d .reply) d (reply-room (state s h) b d)
 
 pub read-is : (s : ℕ) (h : List Call) (c : Controller) (g : ℕ) (ts : List Travel) (ps : List Position)
     (n u v a r : ℕ) → held (state s h) ≡ c → ts ≡ each (heldTravel (state s h)) → ps ≡ each (heldPosition (state s h))

@@ -1,5 +1,5 @@
--- A list of calls, nine bytes each, played to the machine after power-on, and the digest of all its answers. The machine
--- that a call gets is `state` (machine/specs/Calls.antt) of the switch and the calls before it.
+-- A list of calls, nine bytes each, played to the machine after power-on, and the digest of all its answers. The
+-- machine that a call gets is `state` (machine/specs/Calls.antt) of the switch and the calls before it.
 use Prim.Native.Nat.{ℕ, zero, suc, _+_, _*_, _/_, _%_}
 use mathlib.Core.Bool.{Bool, cond}
 use mathlib.Core.List.{List, [], _∷_}

@@ -1,10 +1,11 @@
--- A received byte, on every machine so held: the reply has room in the buffer, and so fits 32 bits. Assumes nothing.
+-- A received byte, after every list of calls that leaves the controller: the reply has room in the buffer, and so fits
+-- 32 bits. Assumes nothing.
 use borrow.Author.Needs.{needs}
 use Prim.Native.Nat.{_≤_}
 use native.Mathlib.Omega.{arith}
 use lib.ListN.{length}
 use Rattle.machine.specs.Calls.{state}
-use Rattle.replay.proofs.AnswerLaws.{reply-room, byte-part}
+use Rattle.replay.proofs.AnswerLaws.{answer-room, byte-part}
 use Rattle.replay.proofs.play.lend.Statement.{statement}
 use Rattle.replay.proofs.play.lend.Tie as tie
 
@@ -17,9 +18,8 @@ cast-mix c =
     let a = c .before .before .byte in
     let r = l .pre .0 in
     let n : a .result .length ≤ length (l .args .buf .now) =
-    reply-room (state (r .switch) (r .history)) (l .args .b) (l .args .buf .now) (a .result) (a .last .1 .0)
-    (a .ensures .0 (r .switch) (r .history) (r .made)) (a .ensures .1 .0 (r .switch) (r .history) (r .made))
-    (a .kept .1 .0) in
+    answer-room (state (r .switch) (r .history)) (l .args .b) (l .args .buf .now) (a .result)
+    (a .ensures .0 (r .switch) (r .history) (r .made)) in
     record { fits = omega (arith, l .pre .1) }
 
 cast-mix-2 : tie.Need-cast-mix-2
@@ -44,7 +44,7 @@ returns c =
     let l = a .before .before .before .before .args in
     λ s h e. byte-part s h (l .b) (l .buf .now) (l .was .digest) (a .byte .result) (a .byte .last .1 .0) _ _
     (a .byte .ensures .0 s h e) (a .byte .ensures .1 .0 s h e) (n .mix .ensures) (l .whole) _
-    (a .byte .kept .1 .0) (c .before .part .ensures) (c .bytes .ensures)
+    (c .before .part .ensures) (c .bytes .ensures)
 
 pub lend-spec : {M : Type 1} → statement M
 lend-spec =

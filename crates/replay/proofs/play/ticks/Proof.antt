@@ -1,6 +1,5 @@
--- So many ticks. The invariant: the controller and the digest are those of the ticks so far, after every list of
--- calls that leaves the first controller.
--- The measure is the ticks left. Assumes nothing.
+-- So many ticks. The invariant: the controller and the digest are those of the ticks so far, after every list of calls
+-- that leaves the first controller. The measure is the ticks left. Assumes nothing.
 use Prim.Native.Nat.{_-_, _≤_}
 use native.Mathlib.Omega.{arith}
 use mathlib.Core.Path.{_≡_, ap, _∙_}
