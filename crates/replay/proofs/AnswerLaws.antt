@@ -70,7 +70,9 @@ module _ (s : ℕ) (h : List Call) (b : ℕ) (d : List ℕ) (g : ℕ) (a : ByteA
   }
     where
       front : frontOf x (a .length) ≡ byteStep (state s h) b d .reply
-      front = (λ i. frontOf (l i) (e i .length)) ∙ front-over (byteStep (state s h) b d .reply) d (reply-room (state s h) b d)
+      front =
+          (λ i. frontOf (l i) (e i .length))
+          ∙ front-over (byteStep (state s h) b d .reply) d (reply-room (state s h) b d)
 
 pub read-is : (s : ℕ) (h : List Call) (c : Controller) (g : ℕ) (ts : List Travel) (ps : List Position)
     (n u v a r : ℕ) → held (state s h) ≡ c → ts ≡ each (heldTravel (state s h)) → ps ≡ each (heldPosition (state s h))

@@ -8,7 +8,7 @@ use reply::Position;
 use reply::Travel;
 
 // A digest with three numbers more. The sum of the products stays below 2 to the 64.
-pub(crate) fn mix(h: u32, x: u32, y: u32, z: u32) -> u32
+pub fn mix(h: u32, x: u32, y: u32, z: u32) -> u32
     ensures { λ r. ⌜ r ≡ mixed h x y z ⌝ }
 {
     let sum = h as u64 * 2147483629

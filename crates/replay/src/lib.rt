@@ -8,7 +8,7 @@ ghost use Rattle.controller.specs.Reach.{Reachable};
 ghost use Rattle.replay.specs.Replay.{heldSeen, Plays, begun, called, wordAt, replayed};
 use crate::play::Played;
 
-mod digest;
+pub mod digest;
 mod play;
 
 // The bytes of a call: its kind, its value and its count.

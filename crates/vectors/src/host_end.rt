@@ -1,6 +1,7 @@
 // The host end on one line of the page.
 use crate::blocks;
 use crate::form;
+use crate::pairs;
 use crate::settings;
 use crate::text::Text;
 use crate::writer;
@@ -38,7 +39,7 @@ pub(crate) fn answer(line: &[u8]) -> Text {
         return settings::all(line);
     }
     if form::fits(line, b"G hhhhh hhhhh") {
-        return settings::pair(line);
+        return pairs::answer(line);
     }
     blocks::answer(line)
 }

@@ -1,15 +1,15 @@
-// Bench figures on lines `F`, `U`, `D` and `G`.
+// Bench figures on lines `F`, `U` and `D`.
 use crate::form;
 use crate::text;
 use crate::text::Text;
 use digits::Ident;
 use figures::Asked;
-use figures::Figures;
 use figures::Setting;
 use figures::Units;
 use host::Request;
 use host::Written;
 use line::command::Command;
+use replay::digest;
 
 // The largest settings.
 const SPEED_MOST: u32 = 1000000;
@@ -74,7 +74,7 @@ fn quarters_of(x: f64) -> Quarters {
 }
 
 // A figure as `U` prints it.
-fn with_figure(text: Text, x: f64) -> Text {
+pub(crate) fn with_figure(text: Text, x: f64) -> Text {
     let quarters = quarters_of(x);
     let told = text.hex(quarters.count, 16);
     if quarters.exact {
@@ -172,20 +172,11 @@ pub(crate) fn read_back(line: &[u8]) -> Text {
     )
 }
 
-// A digest with three numbers more, as docs/VECTORS.md mixes them in.
-fn mix(h: u32, x: u32, y: u32, z: u32) -> u32 {
-    let sum = h as u64 * 2147483629
-        + x as u64 * 1073741789
-        + y as u64 * 536870909
-        + z as u64 * 268435399;
-    (sum % 4294967296) as u32
-}
-
 // The units that a figure has, and 0 or the number that turns it away, mixed into a digest.
 fn mixed(h: u32, told: u32, units: Units) -> u32 {
     match units {
-        Units::Count(n) => mix(h, told, n, 0),
-        Units::Refused(k) => mix(h, told, 0, k as u32),
+        Units::Count(n) => digest::mix(h, told, n, 0),
+        Units::Refused(k) => digest::mix(h, told, 0, k as u32),
     }
 }
 
@@ -212,36 +203,4 @@ pub(crate) fn all(line: &[u8]) -> Text {
         return Text::new().hex(mixed_all(true, SPEED_MOST + 1) as u64, 8);
     }
     Text::new().hex(mixed_all(false, SLOPE_MOST + 1) as u64, 8)
-}
-
-// The pair of figures of a controller of switch 0 that got these bytes.
-fn pair_after(bytes: &[u8]) -> Figures {
-    let on = controller::power_on(0);
-    let mut controller = on.controller;
-    let mut buf = [0u8; 120];
-    let mut i = 0;
-    while i < bytes.len() {
-        let answer = controller.byte(&mut buf, bytes[i]);
-        let next = answer.controller;
-        controller = next;
-        i += 1;
-    }
-    figures::figures_of(controller)
-}
-
-// The lines P08 and P09 with the two fields' digits.
-fn both_lines(line: &[u8]) -> [u8; 18] {
-    let mut bytes = *b"P08.....\rP09.....\r";
-    for i in 0..5 {
-        bytes[i + 3] = form::at(line, i + 2);
-        bytes[i + 12] = form::at(line, i + 8);
-    }
-    bytes
-}
-
-// `G`: the pair of figures of a controller that got both settings.
-pub(crate) fn pair(line: &[u8]) -> Text {
-    let lines = both_lines(line);
-    let pair = pair_after(&lines);
-    with_figure(with_figure(Text::new(), pair.speed).with(b' '), pair.slope)
 }

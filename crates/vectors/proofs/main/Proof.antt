@@ -1,4 +1,5 @@
--- Pair by pair. The invariant: the pairs are at most half of all numbers. The measure is the pairs left. Assumes nothing.
+-- Pair by pair. The invariant: the pairs are at most half of all numbers. The measure is the pairs left. Assumes
+-- nothing.
 use Prim.Native.Nat.{_-_, _≤_}
 use borrow.Author.Needs.{needs}
 use native.Mathlib.Omega.{arith}

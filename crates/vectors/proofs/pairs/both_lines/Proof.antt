@@ -3,8 +3,8 @@ use mathlib.Core.Path.{_≡_}
 use Prim.Native.Nat.{_-_, _≤_}
 use lib.ListN.{length}
 use borrow.Author.Needs.{needs}
-use Rattle.vectors.proofs.settings.both_lines.Statement.{statement}
-use Rattle.vectors.proofs.settings.both_lines.Tie as tie
+use Rattle.vectors.proofs.pairs.both_lines.Statement.{statement}
+use Rattle.vectors.proofs.pairs.both_lines.Tie as tie
 
 abbrev Inv-loop : tie.InvT-loop
 Inv-loop line bytes₀ i₀ bytes i = (i ≤ 5) × (18 ≡ length bytes)
