@@ -1,5 +1,6 @@
 // The host end on one line of the page.
 use crate::blocks;
+use crate::digests;
 use crate::form;
 use crate::pairs;
 use crate::settings;
@@ -36,7 +37,7 @@ pub(crate) fn answer(line: &[u8]) -> Text {
         return settings::shown(line);
     }
     if form::fits(line, b"D k") {
-        return settings::all(line);
+        return digests::answer(line);
     }
     if form::fits(line, b"G hhhhh hhhhh") {
         return pairs::answer(line);

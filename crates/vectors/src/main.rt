@@ -10,6 +10,7 @@ use libc::STDOUT_FILENO;
 use session::Session;
 
 mod blocks;
+mod digests;
 mod form;
 mod host_end;
 mod input;

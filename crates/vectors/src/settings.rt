@@ -1,4 +1,4 @@
-// Bench figures on lines `F`, `U` and `D`.
+// Bench figures on lines `F` and `U`.
 use crate::form;
 use crate::text;
 use crate::text::Text;
@@ -9,34 +9,25 @@ use figures::Units;
 use host::Request;
 use host::Written;
 use line::command::Command;
-use replay::digest;
-
-// The largest settings.
-const SPEED_MOST: u32 = 1000000;
-
-const SLOPE_MOST: u32 = 4095;
 
 // 2 to the 53, and what an exponent has added.
 const MOST_DIGITS: u64 = 9007199254740992;
 
 const ADDED: u32 = 2048;
 
-// The next figure above 1.
-const NEXT: f64 = 1.0000000000000002;
-
 // 4 times a figure as a whole number, and whether it is exactly that.
-struct Quarters {
-    count: u64,
+pub(crate) struct Quarters {
+    pub(crate) count: u64,
     exact: bool,
 }
 
 // Whether a line is of speeds; else it is of slopes.
-fn is_speed(line: &[u8]) -> bool {
+pub(crate) fn is_speed(line: &[u8]) -> bool {
     form::at(line, 2) == b'V'
 }
 
 // The figure of n units.
-fn figure_of(speed: bool, n: u32) -> f64 {
+pub(crate) fn figure_of(speed: bool, n: u32) -> f64 {
     if speed {
         return figures::speed_hz(n);
     }
@@ -44,7 +35,7 @@ fn figure_of(speed: bool, n: u32) -> f64 {
 }
 
 // A figure in units.
-fn units_of(speed: bool, x: f64) -> Units {
+pub(crate) fn units_of(speed: bool, x: f64) -> Units {
     if speed {
         return figures::speed_units(x);
     }
@@ -58,7 +49,7 @@ fn setting_of(speed: bool, x: f64) -> Setting {
     Setting::Slope(x)
 }
 
-fn quarters_of(x: f64) -> Quarters {
+pub(crate) fn quarters_of(x: f64) -> Quarters {
     let y = x * 4.0;
     if y > -1.0 {
         if y < 18446744073709551616.0 {
@@ -170,37 +161,4 @@ pub(crate) fn read_back(line: &[u8]) -> Text {
         with_units(Text::new(), units_of(speed, x)).with(b' '),
         asked,
     )
-}
-
-// The units that a figure has, and 0 or the number that turns it away, mixed into a digest.
-fn mixed(h: u32, told: u32, units: Units) -> u32 {
-    match units {
-        Units::Count(n) => digest::mix(h, told, n, 0),
-        Units::Refused(k) => digest::mix(h, told, 0, k as u32),
-    }
-}
-
-// One n: its figure read back, and the next figure above.
-fn mixed_both(h: u32, speed: bool, n: u32) -> u32 {
-    let x = figure_of(speed, n);
-    let quarters = quarters_of(x);
-    let told = (quarters.count % 4294967296) as u32;
-    let read = mixed(h, told, units_of(speed, x));
-    mixed(read, 0, units_of(speed, x * NEXT))
-}
-
-fn mixed_all(speed: bool, most: u32) -> u32 {
-    let mut digest = 0;
-    for n in 1..=most {
-        digest = mixed_both(digest, speed, n);
-    }
-    digest
-}
-
-// `D`: every n from 1 to the largest setting, and one more.
-pub(crate) fn all(line: &[u8]) -> Text {
-    if is_speed(line) {
-        return Text::new().hex(mixed_all(true, SPEED_MOST + 1) as u64, 8);
-    }
-    Text::new().hex(mixed_all(false, SLOPE_MOST + 1) as u64, 8)
 }

@@ -1,8 +1,8 @@
 -- Every n up to the most. The measure is what is left of it. Assumes nothing.
 use Prim.Native.Nat.{_+_, _-_, _≤_}
 use borrow.Author.Needs.{needs}
-use Rattle.vectors.proofs.settings.mixed_all.Statement.{statement}
-use Rattle.vectors.proofs.settings.mixed_all.Tie as tie
+use Rattle.vectors.proofs.digests.mixed_all.Statement.{statement}
+use Rattle.vectors.proofs.digests.mixed_all.Tie as tie
 
 abbrev Inv-loop : tie.InvT-loop
 Inv-loop speed most digest₀ n₀ digest n = n ≤ most + 1
