@@ -30,7 +30,8 @@ use Rattle.machine.specs.Steps.{
   answered,
 }
 use Rattle.machine.specs.Calls.{state}
-use Rattle.machine.proofs.FitLaws.{Fits, fits}
+use Rattle.machine.proofs.Fits.{Fits}
+use Rattle.machine.proofs.FitLaws.{fits}
 use Rattle.host.specs.Writer.{identFits}
 use Rattle.host.proofs.JudgeLaws.{named-late}
 use Rattle.reader.specs.Reader.{Figures}

@@ -38,7 +38,7 @@ use Rattle.reply.specs.Reply.{
 use Rattle.machine.specs.State.{Machine}
 use Rattle.machine.specs.Stops as Stops
 use Rattle.machine.specs.Replies.{travelOf, positionOf, toldOf, replyTo, refusal}
-use Rattle.machine.proofs.FitLaws.{Fits}
+use Rattle.machine.proofs.Fits.{Fits}
 use Rattle.host.specs.Writer.{identFits}
 use Rattle.reader.specs.Reader.{Figures, verdict, echo, readOf}
 use Rattle.reader.specs.Blocks.{Framed}
