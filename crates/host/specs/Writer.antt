@@ -60,7 +60,7 @@ digitsOf (C.Order code) = coded code 0
 digitsOf (C.Outputs v) = v
 digitsOf (C.Read r) = readingDigits r
 
--- Both.
+-- A letter and six digits; those of a command.
 abbrev pub content : ℕ → ℕ → Content
 content letter digits = record { letter = letter; number = digits }
 
@@ -74,6 +74,7 @@ abbrev pub identFits : Ident → Bool
 identFits Absent = true
 identFits (Given c) = isIdent (digitOf c)
 
+-- There is none.
 abbrev pub isAbsent : Ident → Bool
 isAbsent Absent = true
 isAbsent (Given c) = false
@@ -97,6 +98,7 @@ abbrev pub fullOf : Bool → ℕ → ℕ → Ident → List ℕ
 fullOf silent letter digits ident =
     blockOf (record { letter = letter; switch = switchOf silent; number = digits; ident = ident })
 
+-- The line of a request.
 unfoldable pub lineOf : Request → List ℕ
 lineOf r =
     cond (isQuery (r .command)) (queryOf (r .silent))

@@ -120,6 +120,7 @@ pub(crate) fn content_of(command: Command) -> Content
     }
 }
 
+// Whether a reading is of the inputs.
 fn is_inputs(reading: Reading) -> bool
     ensures { λ r. ⌜ r ≡ isInputs reading ⌝ }
 {
