@@ -14,7 +14,7 @@ use Rattle.digits.proofs.Six.{under-six}
 use Rattle.line.specs.declared.command.Command.{Command}
 use Rattle.line.specs.declared.row.Row.{Row}
 use Rattle.line.specs.declared.row.Row.the-variants.{Unlisted, Listed}
-use Rattle.line.specs.Ranges.{isAxis, isWithin}
+use Rattle.line.specs.Ranges.{isWithin, isAxis, isOrder}
 use Rattle.line.specs.Codes.{letterP, letterQ, letterW, code, five, rowP, rowQ, rowq, rowOf, isQuery}
 use Rattle.line.specs.Fits.{OrderFits, JudgedFits}
 use Rattle.line.specs.Line.{charAt, digitCount, digitChars, valueOf, judgeOf}
@@ -53,7 +53,7 @@ module _ (count n : ℕ) where
       by-bool (RowOwn count n) (isAxis (code n)) _ _ (λ _. record { order = always; bare = full })
       λ _. by-eq (RowOwn count n) (code n) 6 _ _ (λ _. record { order = always; bare = full })
       λ _. by-eq (RowOwn count n) (code n) 8 _ _ (λ e. record { order = (e, refl, refl); bare = full })
-      λ _. by-bool (RowOwn count n) (isWithin (code n) 9 11) _ _ (λ _. record { order = refl; bare = full })
+      λ _. by-bool (RowOwn count n) (isOrder (code n)) _ _ (λ _. record { order = refl; bare = full })
       λ _. by-bool (RowOwn count n) (isWithin (code n) 13 14) _ _
       (λ _. record { order = λ _. (refl, refl); bare = full })
       λ _. always

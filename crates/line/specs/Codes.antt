@@ -9,7 +9,7 @@ use Rattle.line.specs.declared.command.Command.{Command}
 use Rattle.line.specs.declared.command.Command.the-variants as C
 use Rattle.line.specs.declared.row.Row.{Row}
 use Rattle.line.specs.declared.row.Row.the-variants.{Unlisted, Listed}
-use Rattle.line.specs.Ranges.{isAxis, isWithin}
+use Rattle.line.specs.Ranges.{isWithin, isAxis, isOrder}
 
 -- The letters P, Q, q and W.
 abbrev pub letterP : ℕ
@@ -54,7 +54,7 @@ rowQ k v =
     cond (isAxis k) (Listed 1 (C.Read (R.Travel k)))
     (cond (eqb k 6) (Listed 1 (C.Read R.Status))
     (cond (eqb k 8) (Listed 2 (C.Start (v / fourDigits % 8) (leb 8 (v / fourDigits))))
-    (cond (isWithin k 9 11) (Listed 1 (C.Order k))
+    (cond (isOrder k) (Listed 1 (C.Order k))
     (cond (isWithin k 13 14) (Listed 6 (C.Set k v))
     Unlisted))))
 

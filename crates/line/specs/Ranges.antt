@@ -52,12 +52,16 @@ readingFits R.Inputs = true
 abbrev pub distanceFits : ℕ → ℕ → Bool
 distanceFits k d = isAxis k && ltb d topBit
 
--- A command's values: a distance, a setting and a reading as above, a master is one of the five axes, the orders that
--- name nothing else are 9, A and B, the outputs have 24 bits.
+-- The codes of the orders that name nothing else: 9 stop, A clear bit 2, B position reset.
+abbrev pub isOrder : ℕ → Bool
+isOrder code = isWithin code 9 11
+
+-- A command's values: a distance, a setting, a reading and an order as above, a master is one of the five axes, the
+-- outputs have 24 bits.
 abbrev pub fits : Command → Bool
 fits (C.Distance k minus d) = distanceFits k d
 fits (C.Set code v) = settingFits code v
 fits (C.Start k waits) = isAxis k
-fits (C.Order code) = isWithin code 9 11
+fits (C.Order code) = isOrder code
 fits (C.Outputs v) = ltb v sixDigits
 fits (C.Read r) = readingFits r

@@ -1,7 +1,7 @@
 // What a line asks for (chapter 7), and the one judgement of its ranges (paper 01, "Lines").
 // Every function is total: it has no premise and states its result for every input. Assumes nothing.
 ghost use mathlib.Core.Path.{_≡_};
-ghost use Rattle.line.specs.Ranges.{isWithin, inputBits, settingFits, readingFits, distanceFits, fits};
+ghost use Rattle.line.specs.Ranges.{isWithin, inputBits, settingFits, readingFits, distanceFits, isOrder, fits};
 
 // The axes.
 pub const AXES: u8 = 5;
@@ -112,6 +112,13 @@ fn distance_fits(axis: u8, length: u32) -> bool
     false
 }
 
+// The codes of the orders that name nothing else.
+pub fn is_order(code: u8) -> bool
+    ensures { λ r. ⌜ r ≡ isOrder code ⌝ }
+{
+    within(code as u32, 9, 11)
+}
+
 // Whether each value of a command is in its range.
 pub fn fits(command: Command) -> bool
     ensures { λ r. ⌜ r ≡ fits command ⌝ }
@@ -124,7 +131,7 @@ pub fn fits(command: Command) -> bool
         } => distance_fits(axis, length),
         Command::Set { code, value } => setting_fits(code, value),
         Command::Start { master, waits: _ } => master < AXES,
-        Command::Order(code) => within(code as u32, 9, 11),
+        Command::Order(code) => is_order(code),
         Command::Outputs(v) => v < digits::SIX_DIGITS,
         Command::Read(reading) => reading_fits(reading),
     }

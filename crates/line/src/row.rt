@@ -72,7 +72,7 @@ fn row_q(code: u8, five: u32) -> Row
             },
         };
     }
-    if command::within(code as u32, 9, 11) {
+    if command::is_order(code) {
         return Row::Listed {
             least: 1,
             command: Command::Order(code),

@@ -23,11 +23,8 @@ enum-known-command-3 c = search needs
 enum-known-command-4 : tie.Need-enum-known-command-4
 enum-known-command-4 c = search needs
 
-cast-within : tie.Need-cast-within
-cast-within c = search needs
-
-within-requires : tie.Need-within-requires
-within-requires c κs = search needs
+is-order-requires : tie.Need-is-order-requires
+is-order-requires c κs = search needs
 
 enum-known-command-5 : tie.Need-enum-known-command-5
 enum-known-command-5 c = search needs
@@ -48,7 +45,7 @@ returns-3 : tie.Need-returns-3
 returns-3 c = sym (ap fits (c .before .command3 .given .1))
 
 returns-4 : tie.Need-returns-4
-returns-4 c = c .within .ensures ∙ sym (ap fits (c .before .before .command4 .given .1))
+returns-4 c = c .is-order .ensures ∙ sym (ap fits (c .before .before .command4 .given .1))
 
 returns-5 : tie.Need-returns-5
 returns-5 c = sym (ap fits (c .before .command5 .given .1))
@@ -66,8 +63,7 @@ fits-spec =
     setting-fits-requires
     enum-known-command-3
     enum-known-command-4
-    cast-within
-    within-requires
+    is-order-requires
     enum-known-command-5
     enum-known-command-6
     reading-fits-requires

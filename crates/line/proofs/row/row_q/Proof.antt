@@ -16,14 +16,14 @@ cast-t10 c = search needs
 returns-3 : tie.Need-returns-3
 returns-3 c = search (picks, tolds) depth 9
 
-within-requires : tie.Need-within-requires
-within-requires c κs = search needs
+is-order-requires : tie.Need-is-order-requires
+is-order-requires c κs = search needs
 
 returns-4 : tie.Need-returns-4
 returns-4 c = search (picks, tolds) depth 9
 
-within-requires-2 : tie.Need-within-requires-2
-within-requires-2 c κs = search needs
+within-requires : tie.Need-within-requires
+within-requires c κs = search needs
 
 returns-5 : tie.Need-returns-5
 returns-5 c = search (picks, tolds) depth 9
@@ -39,8 +39,8 @@ row-q-spec =
     returns-2
     cast-t10
     returns-3
-    within-requires
+    is-order-requires
     returns-4
-    within-requires-2
+    within-requires
     returns-5
     returns-6)
