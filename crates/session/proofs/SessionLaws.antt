@@ -14,7 +14,7 @@ use Rattle.block.specs.Block.{over}
 use Rattle.block.proofs.Buffers.{stores, over-nil}
 use Rattle.machine.specs.State.{Machine}
 use Rattle.machine.specs.Steps.{powerOn, byteStep}
-use Rattle.machine.specs.Calls.{Call, byte, run, state}
+use Rattle.machine.specs.Calls.{Call, byte, run, state, ticks}
 use Rattle.controller.specs.declared.state.Controller.{Controller}
 use Rattle.controller.specs.Held.{held}
 use Rattle.controller.specs.Reach.{Reachable}
@@ -61,7 +61,7 @@ use Rattle.session.specs.Session.{
   untakenOf,
   keptOf,
 }
-use Rattle.session.proofs.SumLaws.{past, past-state}
+use Rattle.session.proofs.SumLaws.{past-state}
 
 -- ---- the parts of a step
 
@@ -271,7 +271,7 @@ module _ (w : ℕ) (h : List Call) where
   asks-lives Malformed = record { switch = w; history = h; place = starting; is = refl }
   asks-lives (Ticks n x) = record {
     switch = w;
-    history = past n x h;
+    history = ticks n x h;
     place = starting;
     is = ap (λ (m : Machine). record { machine = m; place = starting }) (past-state w x h n);
   }

@@ -18,7 +18,7 @@ use Rattle.laws.proofs.Five.{five}
 use Rattle.machine.specs.State.{Machine}
 use Rattle.machine.specs.Steps.{tickStep}
 use Rattle.machine.specs.Starts.{outside}
-use Rattle.machine.specs.Calls.{Call, tick, run, state}
+use Rattle.machine.specs.Calls.{Call, tick, run, state, ticks}
 use Rattle.machine.specs.List.{signed, position, latest}
 use Rattle.machine.proofs.DemandLaws.{demand-3}
 use Rattle.controller.specs.declared.state.Controller.{Controller}
@@ -101,18 +101,14 @@ room-of z p h k = record {
 
 -- ---- ticks on a list of calls
 
-unfoldable pub past : ℕ → ℕ → List Call → List Call
-past zero w h = h
-past (suc n) w h = tick w ∷ past n w h
-
 module _ (s w : ℕ) (h : List Call) where
-  pub past-state : (n : ℕ) → state s (past n w h) ≡ afterTicks n w (state s h)
-  unfolding run afterTicks past
+  pub past-state : (n : ℕ) → state s (ticks n w h) ≡ afterTicks n w (state s h)
+  unfolding run
   past-state zero = refl
   past-state (suc n) = ap (λ (m : Machine). tickStep m w .machine) (past-state n)
 
-  past-sum : (n k : ℕ) → signed s (past n w h) k ≡ signed s h k +ℤ sumOf n w (state s h) k
-  unfolding signed sumOf past
+  past-sum : (n k : ℕ) → signed s (ticks n w h) k ≡ signed s h k +ℤ sumOf n w (state s h) k
+  unfolding signed sumOf
   past-sum zero k = sym (+ℤ-idr (signed s h k))
   past-sum (suc n) k =
       (λ i. past-sum n k i +ℤ tickStep (past-state n i) w .pulse k)
@@ -122,14 +118,14 @@ module _ (s w : ℕ) (h : List Call) where
   sum-size n k l =
       omega (
         arith,
-        way-size (position s h k) (sumOf n w (state s h) k) (position s (past n w h) k) way,
+        way-size (position s h k) (sumOf n w (state s h) k) (position s (ticks n w h) k) way,
         inside-size (position s h k) (demand-3 s h k l .within),
-        inside-size (position s (past n w h) k) (demand-3 s (past n w h) k l .within),
+        inside-size (position s (ticks n w h) k) (demand-3 s (ticks n w h) k l .within),
       )
     where
-      way : position s (past n w h) k ≡ position s h k +ℤ sumOf n w (state s h) k
+      way : position s (ticks n w h) k ≡ position s h k +ℤ sumOf n w (state s h) k
       way =
-          demand-3 s (past n w h) k l .sums ∙ past-sum n k
+          demand-3 s (ticks n w h) k l .sums ∙ past-sum n k
           ∙ ap (λ (z : ℤ). z +ℤ sumOf n w (state s h) k) (sym (demand-3 s h k l .sums))
 
   pub sums-small : (n : ℕ) (sums : List ℤ) → sums ≡ each (sumOf n w (state s h)) → Small sums
@@ -157,7 +153,7 @@ module _ (s w : ℕ) (h : List Call) where
 
   pub none-ran : (c : Controller) → held (state s h) ≡ c
       → record { controller = c; sums = pos 0 ∷ pos 0 ∷ pos 0 ∷ pos 0 ∷ pos 0 ∷ []; number = 0 } ≡ ranOf 0 w (state s h)
-  unfolding afterTicks sumOf numberIn
+  unfolding run sumOf numberIn
   none-ran c e = λ i. record { controller = sym e i; sums = pos 0 ∷ pos 0 ∷ pos 0 ∷ pos 0 ∷ pos 0 ∷ []; number = 0 }
 
   pub next-made : (r : Ran) (sums : List ℤ) (before : ℕ) → r ≡ tickedOf sums before (tickStep (state s h) w)
@@ -167,8 +163,8 @@ module _ (s w : ℕ) (h : List Call) where
 
   -- One tick more.
   pub next-ran : (n : ℕ) (ran next : Ran) → ran ≡ ranOf n w (state s h)
-      → next ≡ tickedOf (ran .sums) (ran .number) (tickStep (state s (past n w h)) w)
+      → next ≡ tickedOf (ran .sums) (ran .number) (tickStep (state s (ticks n w h)) w)
       → next ≡ ranOf (n + 1) w (state s h)
-  unfolding afterTicks sumOf numberIn
+  unfolding run sumOf numberIn
   next-ran n ran next p e =
       rw add-one (e ∙ λ i. tickedOf (p i .sums) (p i .number) (tickStep (past-state n i) w))

@@ -2,7 +2,7 @@
 -- start that failed.
 use Prim.Native.Nat.{ℕ, zero, suc, _≤_, _<_}
 use mathlib.Core.Bool.{cond}
-use mathlib.Core.List.{List}
+use mathlib.Core.List.{List, []}
 use lib.Dec.{eqb}
 use lib.IntN.{ℤ, pos, _+ℤ_, natAbs}
 use lib.ListN.{getD}
@@ -12,13 +12,13 @@ use Rattle.laws.specs.Axes.{each}
 use Rattle.machine.specs.State.{Machine}
 use Rattle.machine.specs.Steps as steps
 use Rattle.machine.specs.Steps.{tickStep}
+use Rattle.machine.specs.Calls.{from, ticks}
 use Rattle.controller.specs.Held.{held}
 use Rattle.session.specs.declared.ticks.Ran.{Ran}
 
 -- The machine after n ticks with the input word w.
-unfoldable pub afterTicks : ℕ → ℕ → Machine → Machine
-afterTicks zero w m = m
-afterTicks (suc n) w m = tickStep (afterTicks n w m) w .machine
+abbrev pub afterTicks : ℕ → ℕ → Machine → Machine
+afterTicks n w m = from m (ticks n w [])
 
 -- The sum of the signed pulses of axis k in these ticks.
 unfoldable pub sumOf : ℕ → ℕ → Machine → ℕ → ℤ

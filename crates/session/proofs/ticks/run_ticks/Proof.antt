@@ -4,11 +4,11 @@ use Prim.Native.Nat.{_-_, _≤_}
 use native.Mathlib.Omega.{arith}
 use mathlib.Core.List.{_∷_}
 use mathlib.Core.Path.{_≡_, sym, ap, _∙_}
-use Rattle.machine.specs.Calls.{tick, state}
+use Rattle.machine.specs.Calls.{tick, state, ticks}
 use Rattle.controller.specs.Reach.{Reachable, Made}
 use Rattle.controller.specs.Held.{held}
 use Rattle.session.specs.Ticks.{ranOf}
-use Rattle.session.proofs.SumLaws.{past, past-state, sums-small, none-ran, next-made, next-ran}
+use Rattle.session.proofs.SumLaws.{past-state, sums-small, none-ran, next-made, next-ran}
 use Rattle.session.proofs.ticks.run_ticks.Statement.{statement}
 use Rattle.session.proofs.ticks.run_ticks.Tie as tie
 
@@ -53,7 +53,7 @@ loop-again c =
       },
       l .inv .2,
       λ s h e. next-ran s w h (l .i) (l .ran) (c .ticked .result) (l .inv .3 s h e)
-          (c .ticked .ensures s (past (l .i) w h)
+          (c .ticked .ensures s (ticks (l .i) w h)
           (ap held (past-state s w h (l .i)) ∙ sym (ap (λ x. x .controller) (l .inv .3 s h e)))),
     )
 
