@@ -15,7 +15,7 @@ use Rattle.machine.specs.State.{Machine}
 use Rattle.machine.specs.Steps as steps
 use Rattle.machine.specs.Steps.{byteStep}
 use Rattle.machine.specs.Calls.{Call, byte, Origin, given, run, state, from, bytes}
-use Rattle.machine.proofs.RunLaws.{true-false}
+use Rattle.laws.proofs.Tests.{true-false}
 use Rattle.controller.specs.declared.state.Gathered as controller
 use Rattle.controller.specs.Held.{held, heldGathered}
 use Rattle.controller.specs.Reach.{Made}

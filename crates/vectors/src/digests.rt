@@ -2,12 +2,9 @@
 use crate::settings;
 use crate::text::Text;
 use figures::Units;
+use line::command::TOP_SLOPE;
+use line::command::TOP_SPEED;
 use replay::digest;
-
-// The largest settings.
-const SPEED_MOST: u32 = 1000000;
-
-const SLOPE_MOST: u32 = 4095;
 
 // The next figure above 1.
 const NEXT: f64 = 1.0000000000000002;
@@ -40,7 +37,7 @@ fn mixed_all(speed: bool, most: u32) -> u32 {
 // `D`: every n from 1 to the largest setting, and one more.
 pub(crate) fn answer(line: &[u8]) -> Text {
     if settings::is_speed(line) {
-        return Text::new().hex(mixed_all(true, SPEED_MOST + 1) as u64, 8);
+        return Text::new().hex(mixed_all(true, TOP_SPEED + 1) as u64, 8);
     }
-    Text::new().hex(mixed_all(false, SLOPE_MOST + 1) as u64, 8)
+    Text::new().hex(mixed_all(false, TOP_SLOPE + 1) as u64, 8)
 }
