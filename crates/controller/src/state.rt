@@ -8,6 +8,7 @@ use reply::Position;
 use reply::Travel;
 
 // Speed in units of 0.25 Hz, slope in units of 1.25 kHz/s, dwell in ms, polarity, the two input settings, watch.
+#[repr(C)]
 pub struct Settings {
     pub speed: u32,
     pub slope: u32,
@@ -19,12 +20,14 @@ pub struct Settings {
 }
 
 // A distance and a direction for each axis; true is minus.
+#[repr(C)]
 pub struct Plan {
     pub distances: [u32; 5],
     pub minus: [bool; 5],
 }
 
 // The latest move: the master's distance and travel, the speed in fiftieths of a unit, the phase.
+#[repr(C)]
 pub struct Run {
     pub length: u32,
     pub gone: u32,
@@ -36,6 +39,7 @@ pub struct Run {
 }
 
 // What each axis counts. A remainder is what the master's travel times the distance leaves when divided by the length.
+#[repr(C)]
 pub struct Counters {
     pub travels: [Travel; 5],
     pub remainders: [u32; 5],
@@ -43,12 +47,14 @@ pub struct Counters {
 }
 
 // The ticks of the dwell that are left, and the waiting start: 0, or its master and 1.
+#[repr(C)]
 pub struct Pause {
     pub left: u32,
     pub waiting: u32,
 }
 
 // Status bits 2, 3, 5 and 6.
+#[repr(C)]
 pub struct Flags {
     pub wrong: bool,
     pub stopped: bool,
@@ -57,11 +63,13 @@ pub struct Flags {
 }
 
 // The output words by their parts, kept ready.
+#[repr(C)]
 pub struct Wires {
     pub general: u32,
     pub cells: Cells,
 }
 
+#[repr(C)]
 pub struct Hot {
     pub plan: Plan,
     pub counters: Counters,
@@ -75,6 +83,7 @@ pub struct Hot {
 }
 
 // What only bytes alter.
+#[repr(C)]
 pub struct Cold {
     pub settings: Settings,
     pub next: Plan,
@@ -83,12 +92,14 @@ pub struct Cold {
 }
 
 // Its fields are the crate's own, so that only power-on and calls can make one.
+#[repr(C)]
 pub struct Controller {
     pub(crate) hot: Hot,
     pub(crate) cold: Cold,
 }
 
 // A controller as power-on leaves it, and 1 for a switch that there is none of, else 0.
+#[repr(C)]
 pub struct PowerOn {
     pub controller: Controller,
     pub number: u8,
@@ -96,6 +107,7 @@ pub struct PowerOn {
 
 // What a byte answers: the next controller, the length of the reply in the lent buffer, and the number that turned
 // the byte or its line away, told of silent lines too; 0 where nothing was.
+#[repr(C)]
 pub struct ByteAnswer {
     pub controller: Controller,
     pub length: usize,
@@ -110,6 +122,7 @@ pub struct Gathered {
 
 // What a tick answers: the next controller, the five pulses (-1, 0, 1), the output words of its two halves, and the
 // number of a waiting start that failed, or 3, or 0.
+#[repr(C)]
 pub struct TickAnswer {
     pub controller: Controller,
     pub first: u32,

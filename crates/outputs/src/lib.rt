@@ -12,6 +12,7 @@ ghost use Rattle.outputs.specs.Outputs.{generalOf, restOf, fireOf, sumOf
 ghost use Rattle.outputs.specs.Outputs.{xor, hasDirection, pairOf, inversesOf, linesOf, shownOf};
 
 // What each axis adds to a word, at rest and while it pulses, and what all five add at rest.
+#[repr(C)]
 pub struct Cells {
     pub rests: [u32; 5],
     pub fires: [u32; 5],

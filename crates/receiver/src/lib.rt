@@ -12,6 +12,7 @@ use line::Judged;
 
 // The line that is being received: its first ten characters, zeros after them, and their count. Twelve bytes: eleven
 // would be copied in parts that overlap, and a tick would wait for them.
+#[repr(C)]
 pub struct Receiver {
     chars: [u8; 10],
     count: u16,

@@ -32,9 +32,11 @@ const ECHOED: u8 = 13;
 const WITH_IDENT: u8 = 8;
 
 // The pulses that an axis has sent in the latest move. It has no sign.
+#[repr(C)]
 pub struct Travel(pub u32);
 
 // The signed pulses of an axis since power-on or the last position reset, with 524,288 added.
+#[repr(C)]
 pub struct Position(pub u32);
 
 impl Position {
