@@ -1,0 +1,113 @@
+// The controller for firmware in C or Rust: power-on, a received byte, a tick and the readings, by value. Each function
+// has the contract of the entry of `controller` that it passes on; include/temixohuel.h declares them. The premise is
+// that the controller is reachable, and power-on, byte and tick promise this of what they hand back. Assumes nothing.
+ghost use mathlib.Core.List.{List, map};
+ghost use mathlib.Core.Path.{_≡_};
+ghost use Rattle.laws.specs.Axes.{each};
+ghost use Rattle.reply.specs.declared.Position.{Position};
+ghost use Rattle.reply.specs.Reply.{positionOf};
+ghost use Rattle.machine.specs.Stops.{status};
+ghost use Rattle.controller.specs.Held.{heldPower};
+ghost use Rattle.controller.specs.Reach.{Reachable, Made};
+ghost use Rattle.controller.specs.Answers as answered;
+ghost use Rattle.controller.specs.Answers.{Promised, TravelsOf, PositionsOf, Demand3Answers};
+use controller::ByteAnswer;
+use controller::Controller;
+use controller::PowerOn;
+use controller::TickAnswer;
+use reply::Travel;
+
+// The five travels: an array does not cross by itself.
+#[repr(C)]
+pub struct Travels {
+    pub axes: [Travel; 5],
+}
+
+// The five positions as signed numbers, of the width that `Position::signed` has.
+#[repr(C)]
+pub struct Positions {
+    pub axes: [i64; 5],
+}
+
+// Power-on, for every switch.
+#[no_mangle]
+pub extern "C" fn temixohuel_power_on(switch: u8) -> PowerOn
+    ensures { λ r. ⌜ r ≡ heldPower switch ⌝ }
+    ensures { λ _. ⌜ Demand3Answers ⌝ }
+    ensures { λ r. ⌜ Reachable (r .controller) ⌝ }
+{
+    controller::power_on(switch)
+}
+
+// A received byte, with the buffer lent for a reply.
+#[no_mangle]
+pub extern "C" fn temixohuel_byte(c: Controller, buf: &mut [u8], b: u8) -> ByteAnswer
+    requires { ⌜ Reachable c ⌝ }
+    ensures { λ r. ⌜ Promised c (answered.byte b (now (buf .entry)) (now (buf .exit)) r) ⌝ }
+{
+    c.byte(buf, b)
+}
+
+// A tick, with its input word.
+#[no_mangle]
+pub extern "C" fn temixohuel_tick(c: Controller, word: u32) -> TickAnswer
+    requires { ⌜ Reachable c ⌝ }
+    ensures { λ r. ⌜ Promised c (answered.tick word r) ⌝ }
+{
+    c.tick(word)
+}
+
+// The pulses that each axis has sent in the latest move.
+#[no_mangle]
+pub extern "C" fn temixohuel_travels(c: Controller) -> Travels
+    requires { ⌜ Reachable c ⌝ }
+    ensures { λ r. ⌜ TravelsOf c (r .axes) ⌝ }
+{
+    let axes = c.travels();
+    Travels { axes }
+}
+
+// The signed pulses of each axis since power-on or the last position reset.
+#[no_mangle]
+pub extern "C" fn temixohuel_positions(c: Controller) -> Positions
+    requires { ⌜ Reachable c ⌝ }
+    ensures { λ r. ⌜ ((ps : List Position) → PositionsOf c ps → r .axes ≡ map positionOf ps) ⌝ }
+    ensures { λ r. ⌜ Made c (λ m. r .axes ≡ each (m .position)) ⌝ }
+{
+    let held = c.positions();
+    let axes = [
+        held[0].signed(),
+        held[1].signed(),
+        held[2].signed(),
+        held[3].signed(),
+        held[4].signed(),
+    ];
+    Positions { axes }
+}
+
+// The status word.
+#[no_mangle]
+pub extern "C" fn temixohuel_status(c: Controller) -> u8
+    requires { ⌜ Reachable c ⌝ }
+    ensures { λ r. ⌜ Made c (λ m. r ≡ status m) ⌝ }
+{
+    c.status()
+}
+
+// The speed setting in units of 0.25 Hz.
+#[no_mangle]
+pub extern "C" fn temixohuel_speed(c: Controller) -> u32
+    requires { ⌜ Reachable c ⌝ }
+    ensures { λ r. ⌜ Made c (λ m. r ≡ m .settings .speed) ⌝ }
+{
+    c.speed()
+}
+
+// The slope setting in units of 1.25 kHz/s.
+#[no_mangle]
+pub extern "C" fn temixohuel_slope(c: Controller) -> u32
+    requires { ⌜ Reachable c ⌝ }
+    ensures { λ r. ⌜ Made c (λ m. r ≡ m .settings .slope) ⌝ }
+{
+    c.slope()
+}
