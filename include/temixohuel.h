@@ -1,0 +1,100 @@
+/*
+ * The blending controller for firmware in C or C++: link target/staticlib/libfirmware.a (`rt staticlib firmware`).
+ *
+ * What a caller owes:
+ * - A controller is one that power-on and these calls alone made: the `controller` of an answer of temixohuel_power_on,
+ *   temixohuel_byte or temixohuel_tick. No byte of it is read, written or compared.
+ * - One call at a time: each gets the controller that the last byte, tick or power-on answered.
+ * - buf has length bytes, and they overlap no controller and no answer.
+ * Nothing else is asked: every switch, byte, word, length and content of a buffer is dealt with.
+ */
+#ifndef TEMIXOHUEL_H
+#define TEMIXOHUEL_H
+
+#include <stddef.h>
+#include <stdint.h>
+
+#ifdef __cplusplus
+extern "C" {
+#endif
+
+#define TEMIXOHUEL_AXES 5
+/* The least length of a buffer lent for a reply. */
+#define TEMIXOHUEL_REPLY 120
+
+/* Why something was turned away. */
+enum {
+    TEMIXOHUEL_TAKEN = 0,           /* nothing turned away */
+    TEMIXOHUEL_SWITCH = 1,          /* power-on: switch over 15, or 12; the controller has switch 0 */
+    TEMIXOHUEL_BUFFER = 2,          /* byte: buffer under 120 bytes; the byte is not taken */
+    TEMIXOHUEL_WORD = 3,            /* tick: input word over FFFFFF; no tick */
+    TEMIXOHUEL_LENGTH = 4,          /* line: under 2 or over 9 characters */
+    TEMIXOHUEL_LETTER = 5,          /* line: first character not P, Q, q, W */
+    TEMIXOHUEL_SECOND = 6,          /* line: second character not 0 or 4 */
+    TEMIXOHUEL_DIGIT = 7,           /* line: no digit, or no identification */
+    TEMIXOHUEL_CODE = 8,            /* line: code absent or unlisted */
+    TEMIXOHUEL_COUNT = 9,           /* line: digit count not the code's */
+    TEMIXOHUEL_RANGE = 10,          /* line: value out of range */
+    TEMIXOHUEL_MOVING = 11,         /* line: a move runs */
+    TEMIXOHUEL_EMERGENCY = 12,      /* start: emergency held */
+    TEMIXOHUEL_SENSOR = 13,         /* start: sensor active */
+    TEMIXOHUEL_LONGER = 14,         /* start: an axis longer than the master */
+    TEMIXOHUEL_NO_DISTANCE = 15,    /* start: master distance 0 */
+    TEMIXOHUEL_BLOCKED = 16,        /* start: an axis blocked */
+    TEMIXOHUEL_POSITION = 17        /* start: a final position out of range */
+};
+
+typedef struct {
+    uint32_t opaque[63];
+} temixohuel_controller;
+
+typedef struct {
+    temixohuel_controller controller;
+    uint8_t number;                 /* 0 or 1 */
+} temixohuel_power_answer;
+
+typedef struct {
+    temixohuel_controller controller;
+    size_t length;                  /* of the reply at the front of buf; 0 without one */
+    uint8_t number;                 /* 0, 2, or 4 to 17; told of silent lines too */
+} temixohuel_byte_answer;
+
+typedef struct {
+    temixohuel_controller controller;
+    uint32_t first;                 /* output words of the tick's two halves */
+    uint32_t second;
+    int8_t pulses[TEMIXOHUEL_AXES]; /* -1, 0 or 1 */
+    uint8_t number;                 /* 0, 3, or 12 to 17 of a waiting start that failed */
+} temixohuel_tick_answer;
+
+typedef struct {
+    uint32_t axes[TEMIXOHUEL_AXES];
+} temixohuel_travel_answer;
+
+typedef struct {
+    int64_t axes[TEMIXOHUEL_AXES];
+} temixohuel_position_answer;
+
+/* A fresh controller. */
+temixohuel_power_answer temixohuel_power_on(uint8_t switch_);
+
+/* A received byte; a reply is written to the front of buf, and the bytes after it keep their values. */
+temixohuel_byte_answer temixohuel_byte(temixohuel_controller c, uint8_t *buf, size_t length, uint8_t b);
+
+/* A tick of 4 us, with its input word. */
+temixohuel_tick_answer temixohuel_tick(temixohuel_controller c, uint32_t word);
+
+/* The pulses of each axis in the latest move; the signed pulses since power-on or the last position reset. */
+temixohuel_travel_answer temixohuel_travels(temixohuel_controller c);
+temixohuel_position_answer temixohuel_positions(temixohuel_controller c);
+
+/* The status bits 0 to 6; the speed setting in units of 0.25 Hz; the slope setting in units of 1.25 kHz/s. */
+uint8_t temixohuel_status(temixohuel_controller c);
+uint32_t temixohuel_speed(temixohuel_controller c);
+uint32_t temixohuel_slope(temixohuel_controller c);
+
+#ifdef __cplusplus
+}
+#endif
+
+#endif

@@ -1,0 +1,107 @@
+//! The blending controller for firmware in Rust: link target/staticlib/libfirmware.a (`rt staticlib firmware`).
+//!
+//! What include/temixohuel.h asks of a caller in C is here a type: the field of `Controller` is private, so that only
+//! power-on and calls make one, and `&mut` keeps calls and memory apart. The numbers are those of the header.
+
+/// A controller of the library. No byte of it means anything here.
+#[repr(C)]
+#[derive(Clone, Copy)]
+struct Opaque([u32; 63]);
+
+#[repr(C)]
+struct PowerAnswer {
+    controller: Opaque,
+    number: u8,
+}
+
+/// What a received byte answers: the length of the reply at the front of the lent buffer, and its number.
+#[repr(C)]
+#[derive(Clone, Copy)]
+pub struct ByteAnswer {
+    controller: Opaque,
+    pub length: usize,
+    pub number: u8,
+}
+
+/// What a tick answers: the output words of its two halves, the five pulses, and its number.
+#[repr(C)]
+#[derive(Clone, Copy)]
+pub struct TickAnswer {
+    controller: Opaque,
+    pub first: u32,
+    pub second: u32,
+    pub pulses: [i8; 5],
+    pub number: u8,
+}
+
+#[repr(C)]
+struct TravelAnswer {
+    axes: [u32; 5],
+}
+
+#[repr(C)]
+struct PositionAnswer {
+    axes: [i64; 5],
+}
+
+extern "C" {
+    fn temixohuel_power_on(switch: u8) -> PowerAnswer;
+    fn temixohuel_byte(c: Opaque, buf: *mut u8, length: usize, b: u8) -> ByteAnswer;
+    fn temixohuel_tick(c: Opaque, word: u32) -> TickAnswer;
+    fn temixohuel_travels(c: Opaque) -> TravelAnswer;
+    fn temixohuel_positions(c: Opaque) -> PositionAnswer;
+    fn temixohuel_status(c: Opaque) -> u8;
+    fn temixohuel_speed(c: Opaque) -> u32;
+    fn temixohuel_slope(c: Opaque) -> u32;
+}
+
+/// A controller that power-on and calls made.
+pub struct Controller(Opaque);
+
+// Each call meets the library's one premise, since its controller is one that an earlier call answered.
+impl Controller {
+    /// A fresh controller, and 1 for a switch that there is none of, else 0.
+    pub fn power_on(switch: u8) -> (Controller, u8) {
+        let answer = unsafe { temixohuel_power_on(switch) };
+        (Controller(answer.controller), answer.number)
+    }
+
+    /// A received byte, with the buffer lent for a reply.
+    pub fn byte(&mut self, buf: &mut [u8], b: u8) -> ByteAnswer {
+        let answer = unsafe { temixohuel_byte(self.0, buf.as_mut_ptr(), buf.len(), b) };
+        self.0 = answer.controller;
+        answer
+    }
+
+    /// A tick, with its input word.
+    pub fn tick(&mut self, word: u32) -> TickAnswer {
+        let answer = unsafe { temixohuel_tick(self.0, word) };
+        self.0 = answer.controller;
+        answer
+    }
+
+    /// The pulses of each axis in the latest move.
+    pub fn travels(&self) -> [u32; 5] {
+        unsafe { temixohuel_travels(self.0) }.axes
+    }
+
+    /// The signed pulses of each axis since power-on or the last position reset.
+    pub fn positions(&self) -> [i64; 5] {
+        unsafe { temixohuel_positions(self.0) }.axes
+    }
+
+    /// The status bits 0 to 6.
+    pub fn status(&self) -> u8 {
+        unsafe { temixohuel_status(self.0) }
+    }
+
+    /// The speed setting in units of 0.25 Hz.
+    pub fn speed(&self) -> u32 {
+        unsafe { temixohuel_speed(self.0) }
+    }
+
+    /// The slope setting in units of 1.25 kHz/s.
+    pub fn slope(&self) -> u32 {
+        unsafe { temixohuel_slope(self.0) }
+    }
+}
