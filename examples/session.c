@@ -1,0 +1,44 @@
+/* The session that paper 01 prints, through the firmware library: two distances, a move of 1,000 ticks, readings. */
+#include <stdio.h>
+#include <string.h>
+
+#include "temixohuel.h"
+
+/* A received byte; its reply is printed with a line feed for 0D. */
+static temixohuel_controller receive(temixohuel_controller bench, uint8_t b) {
+    uint8_t reply[TEMIXOHUEL_REPLY];
+    temixohuel_byte_answer answer = temixohuel_byte(bench, reply, sizeof reply, b);
+    for (size_t at = 0; at < answer.length; at++)
+        putchar(reply[at] == '\r' ? '\n' : reply[at]);
+    return answer.controller;
+}
+
+static temixohuel_controller line(temixohuel_controller bench, const char *text) {
+    for (size_t at = 0; at < strlen(text); at++)
+        bench = receive(bench, (uint8_t)text[at]);
+    return receive(bench, '\r');
+}
+
+/* Ticks with one input word; the sums of the signed pulses are printed. */
+static temixohuel_controller ticks(temixohuel_controller bench, int count, uint32_t word) {
+    int sums[TEMIXOHUEL_AXES] = {0};
+    for (int tick = 0; tick < count; tick++) {
+        temixohuel_tick_answer answer = temixohuel_tick(bench, word);
+        for (int axis = 0; axis < TEMIXOHUEL_AXES; axis++)
+            sums[axis] += answer.pulses[axis];
+        bench = answer.controller;
+    }
+    printf("%d %d %d %d %d\n", sums[0], sums[1], sums[2], sums[3], sums[4]);
+    return bench;
+}
+
+int main(void) {
+    const char *orders[] = {"P0000001", "P0180001", "P08F4240", "P0900FFF", "Q080"};
+    temixohuel_controller bench = temixohuel_power_on(0).controller;
+    for (size_t at = 0; at < sizeof orders / sizeof *orders; at++)
+        bench = line(bench, orders[at]);
+    bench = ticks(bench, 1000, 0);
+    bench = line(bench, "q01");
+    line(bench, "Q06");
+    return 0;
+}
