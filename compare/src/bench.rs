@@ -134,7 +134,7 @@ impl Bench for Typed {
 /// A bench that keeps what is done as a list of calls.
 pub struct Called {
     observed: Observed,
-    calls: Vec<u8>,
+    calls: Vec<Call>,
     ticks_left: u32,
 }
 
@@ -143,27 +143,19 @@ impl Called {
         Called { observed: Observed::power_on(switch), calls: Vec::new(), ticks_left: ticks }
     }
 
-    /// The list, with a rest of fewer than nine bytes at times, and what it meets.
-    pub fn finish(mut self, random: &mut Random) -> (Vec<u8>, Coverage) {
-        if random.chance(20) {
-            self.calls.extend((0..random.between(1, 8)).map(|byte| byte as u8));
-        }
+    /// The list, and what it meets.
+    pub fn finish(self) -> (Vec<Call>, Coverage) {
         (self.calls, self.observed.seen().clone())
     }
 
     fn keep(&mut self, call: Call) {
-        self.calls.extend_from_slice(&call.bytes());
+        self.calls.push(call);
         self.observed.count_call();
     }
 
-    /// One byte with one lent buffer; its number. At times the reply alone counts, and digits above the byte stand.
-    fn give(&mut self, random: &mut Random, byte: u8, lent: usize) -> u8 {
-        let mut call = if random.chance(10) { Call::byte_for_reply(byte, lent) } else { Call::byte(byte, lent) };
-        if random.chance(3) {
-            call.value += 256 * random.below(1 << 24);
-            call.count += 256 * random.below((1 << 24) - 1);
-        }
-        self.keep(call);
+    /// One byte with one lent buffer; its number.
+    fn give(&mut self, byte: u8, lent: usize) -> u8 {
+        self.keep(Call::byte(byte, lent));
         let mut buffer = [0; LONGEST_LENT];
         self.observed.byte(byte, &mut buffer[..lent]).number
     }
@@ -172,19 +164,17 @@ impl Called {
     fn receive(&mut self, random: &mut Random, byte: u8) -> u8 {
         if random.below(200) == 0 {
             let short = if random.chance(30) { LEAST_REPLY_BUFFER - 1 } else { random.below(120) as usize };
-            self.give(random, byte, short);
+            self.give(byte, short);
             if random.chance(5) {
                 return 2;
             }
         }
         let lent = if random.chance(70) { LEAST_REPLY_BUFFER } else { random.between(120, 255) as usize };
-        self.give(random, byte, lent)
+        self.give(byte, lent)
     }
 
-    /// Every kind above 1 asks for the readings.
-    fn readings(&mut self, random: &mut Random) {
-        let kind = if random.chance(70) { 2 } else { random.between(2, 255) as u8 };
-        self.keep(Call { kind, value: random.bits() as u32, count: random.bits() as u32 });
+    fn readings(&mut self) {
+        self.keep(Call::READINGS);
         self.observed.count_readings();
     }
 
@@ -222,7 +212,7 @@ impl Bench for Called {
     /// Readings, over-large words, no ticks at all.
     fn oddity(&mut self, random: &mut Random) {
         match random.below(10) {
-            0..=4 => self.readings(random),
+            0..=4 => self.readings(),
             5..=8 => self.over_large(random),
             _ => self.run(0, random.below(INPUT_WORD_END)),
         }

@@ -23,6 +23,9 @@ pub const BYTE: u8 = 1;
 const REPLY_ALONE: u32 = 256;
 
 impl Call {
+    /// The readings: every kind above 1.
+    pub const READINGS: Call = Call { kind: 2, value: 0, count: 0 };
+
     /// `count` ticks with one input word, which may be over-large.
     pub fn ticks(count: u32, word: u32) -> Call {
         Call { kind: TICKS, value: word, count }

@@ -1,6 +1,6 @@
 //! The proved controller against the reference by another hand: the same sessions and call lists, all answers compared.
 //!
-//! `session` runs text through the two bench programs, `list` runs calls through the two machines. An `operator` works
+//! `session` runs text through the two bench programs, `list` plays calls to the two machines. An `operator` works
 //! at a `bench` to make them: it sets distances, starts, slows, stops and reads as a cellar master would. `hosted` runs
 //! lines of the page of stored vectors through the two host ends. `speed` times both.
 
@@ -14,6 +14,7 @@ pub mod line;
 pub mod list;
 pub mod observed;
 pub mod operator;
+pub mod played;
 pub mod program;
 pub mod proved;
 pub mod random;
@@ -21,4 +22,6 @@ pub mod replay;
 pub mod session;
 pub mod shrink;
 pub mod speed;
+#[path = "../../include/temixohuel.rs"]
+pub mod temixohuel;
 pub mod vector;

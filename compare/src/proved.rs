@@ -1,4 +1,4 @@
-//! The proved controller through its static library.
+//! The proved controller through the replay library: a whole list in one call.
 
 extern "C" {
     fn temixohuel_replay(switch: u8, calls: *const u8, length: usize) -> u32;

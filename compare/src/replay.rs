@@ -1,22 +1,22 @@
-//! The reference on a list of calls, with the same digest.
+//! A machine on a list of calls, with the digest that the replay library makes.
 
 use crate::call::{Call, BYTE, CALL_BYTES, TICKS};
 use crate::digest;
-use reference::Machine;
+use crate::played::Played;
 
 /// The longest buffer that a call can lend.
 pub const LONGEST_LENT: usize = 255;
 
-/// A reference machine and the digest of its answers so far.
-pub struct Replay {
-    pub machine: Machine,
+/// A machine and the digest of its answers so far.
+pub struct Replay<M> {
+    pub machine: M,
     pub digest: u32,
 }
 
-impl Replay {
+impl<M: Played> Replay<M> {
     /// Power-on, whose number begins the digest.
-    pub fn power_on(switch: u8) -> Replay {
-        let (machine, number) = Machine::power_on(switch);
+    pub fn power_on(switch: u8) -> Replay<M> {
+        let (machine, number) = M::power_on(switch);
         Replay { machine, digest: digest::power_on(number) }
     }
 
@@ -30,13 +30,7 @@ impl Replay {
     fn ticks(&mut self, count: u32, word: u32) {
         for _ in 0..count {
             let answer = self.machine.tick(word);
-            self.digest = digest::mix(self.digest, digest::of_tick(&answer));
-        }
-    }
-
-    fn readings(&mut self) {
-        for triple in digest::of_readings(&self.machine) {
-            self.digest = digest::mix(self.digest, triple);
+            self.digest = digest::after_tick(self.digest, &answer);
         }
     }
 
@@ -45,13 +39,13 @@ impl Replay {
         match call.kind {
             TICKS => self.ticks(call.count, call.value),
             BYTE => self.byte(call),
-            _ => self.readings(),
+            _ => self.digest = digest::after_readings(self.digest, self.machine.readings()),
         }
     }
 }
 
-/// The reference after all calls of a list; a rest of fewer than nine bytes is not read.
-pub fn run(switch: u8, calls: &[u8]) -> Replay {
+/// A machine after all calls of a list; a rest of fewer than nine bytes is not read.
+pub fn run<M: Played>(switch: u8, calls: &[u8]) -> Replay<M> {
     let mut replay = Replay::power_on(switch);
     for call in calls.chunks_exact(CALL_BYTES) {
         replay.call(Call::of_bytes(call));
@@ -59,7 +53,7 @@ pub fn run(switch: u8, calls: &[u8]) -> Replay {
     replay
 }
 
-/// The digest of all answers of the reference to a list of calls.
-pub fn replay(switch: u8, calls: &[u8]) -> u32 {
-    run(switch, calls).digest
+/// The digest of all answers of a machine to a list of calls.
+pub fn replay<M: Played>(switch: u8, calls: &[u8]) -> u32 {
+    run::<M>(switch, calls).digest
 }

@@ -22,20 +22,6 @@ pub fn dropped<T: Clone>(items: Vec<T>, mut differs: impl FnMut(&[T]) -> bool) -
     kept
 }
 
-/// The least number from 1 to `most` that differs, where a difference once there stays and `most` differs.
-pub fn least(most: usize, mut differs: impl FnMut(usize) -> bool) -> usize {
-    let (mut alike, mut differing) = (0, most);
-    while differing - alike > 1 {
-        let middle = alike + (differing - alike) / 2;
-        if differs(middle) {
-            differing = middle;
-        } else {
-            alike = middle;
-        }
-    }
-    differing
-}
-
 #[cfg(test)]
 mod tests {
     use super::*;
@@ -45,12 +31,5 @@ mod tests {
         let items: Vec<u32> = (0..1_000).collect();
         let kept = dropped(items, |part| part.contains(&17) && part.contains(&901));
         assert_eq!(kept, [17, 901]);
-    }
-
-    #[test]
-    fn the_least_number_is_found() {
-        for wanted in 1..=20 {
-            assert_eq!(least(20, |count| count >= wanted), wanted);
-        }
     }
 }

@@ -85,7 +85,7 @@ mod tests {
     /// The reference before and after a call of the table, and what it answers.
     fn done(at: usize) -> (Machine, Machine, Vec<i8>, usize, u8) {
         let single = &singles()[at];
-        let before = replay::run(0, single.before.bytes()).machine;
+        let before: Machine = replay::run(0, single.before.bytes()).machine;
         let mut after = before.clone();
         if single.call.kind == TICKS {
             let answer = after.tick(single.call.value);

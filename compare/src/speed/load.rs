@@ -1,7 +1,9 @@
 //! What is timed: the settings of the load, and lists of calls for both machines.
 
 use crate::call::Call;
+use crate::temixohuel::Controller;
 use crate::{proved, replay};
+use reference::Machine;
 
 /// The length of the lent buffers.
 pub const LENT: usize = 120;
@@ -19,8 +21,12 @@ pub const WARM_TICKS: u32 = 13_000;
 /// The digest of all answers of a machine to a list of calls.
 pub type Replayed = fn(u8, &[u8]) -> u32;
 
-/// The proved library and the reference.
-pub const MACHINES: [Replayed; 2] = [proved::replay, replay::replay];
+/// The proved libraries, a whole list in one call and call by call, and the reference.
+pub const MACHINES: [(&str, Replayed); 3] = [
+    ("replay library", proved::replay),
+    ("firmware library", replay::replay::<Controller>),
+    ("reference", replay::replay::<Machine>),
+];
 
 /// A list of calls in the making.
 #[derive(Clone, Debug, Default)]
@@ -59,6 +65,6 @@ pub const LINE_END: Call = Call::byte_for_reply(reference::line::LINE_END, LENT)
 
 /// Figures of two machines that answer in two ways would tell nothing.
 pub fn must_agree(calls: &Calls) {
-    let [ours, theirs] = MACHINES.map(|replay| replay(0, calls.bytes()));
-    assert_eq!(ours, theirs, "library and reference answer a timed list in two ways; sh compare/run.sh finds where");
+    let [list, call, theirs] = MACHINES.map(|(_, replay)| replay(0, calls.bytes()));
+    assert_eq!([list, call], [theirs; 2], "a timed list is answered in two ways; sh compare/run.sh finds where");
 }

@@ -60,8 +60,9 @@ fn alone(ready: &Machine, call: Call) -> f64 {
 /// The ns of a call in one turn: library, reference, and the reference's call alone.
 fn turn(single: &Single) -> [f64; 3] {
     let lists = single.lists();
-    let [ours, theirs] = MACHINES.map(|replay| by_lists(replay, &lists));
-    [ours, theirs, alone(&replay::run(0, single.before.bytes()).machine, single.call)]
+    let [ours, _, theirs] = MACHINES;
+    let ready = replay::run(0, single.before.bytes()).machine;
+    [by_lists(ours.1, &lists), by_lists(theirs.1, &lists), alone(&ready, single.call)]
 }
 
 /// The median of each of three figures over all turns.
@@ -86,11 +87,11 @@ fn figures(singles: &[Single]) -> Vec<[f64; 3]> {
 }
 
 /// Times the calls and prints their table, each beside the mean tick at rest of the rows of library and reference.
-pub fn print(rows: &[Row; 2]) {
+pub fn print(rows: &[Row; 3]) {
     let singles = singles();
     let figures = figures(&singles);
-    let [ours, theirs] = [0, 1].map(|row| rows[row].ticks[2]);
-    println!("{:<28} {:^21} {:^21} {:>13}", "", "proved library", "reference", "reference,");
+    let [ours, theirs] = [0, 2].map(|row| rows[row].ticks[2]);
+    println!("{:<28} {:^21} {:^21} {:>13}", "", "replay library", "reference", "reference,");
     print!("{:<28} {:>7} {:>13} {:>7} {:>13}", "one call", "ns", "ticks at rest", "ns", "ticks at rest");
     println!(" {:>13}", "call alone ns");
     println!("{:<28} {ours:>7.1} {:>13.1} {theirs:>7.1} {:>13.1}", "mean tick at rest", 1.0, 1.0);

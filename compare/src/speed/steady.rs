@@ -82,11 +82,11 @@ fn seconds(replay: Replayed, calls: &Calls) -> f64 {
 }
 
 /// The ns of each figure for each machine; machines and figures take turns, so that a busy neighbour meets all alike.
-fn least(figures: &[Figure]) -> Vec<[f64; 2]> {
-    let mut least = vec![[[f64::INFINITY; 2]; 2]; figures.len()];
+fn least(figures: &[Figure]) -> Vec<[f64; 3]> {
+    let mut least = vec![[[f64::INFINITY; 2]; 3]; figures.len()];
     for _ in 0..RUNS {
         for (times, figure) in least.iter_mut().zip(figures) {
-            for (times, &replay) in times.iter_mut().zip(&MACHINES) {
+            for (times, &(_, replay)) in times.iter_mut().zip(&MACHINES) {
                 times[0] = times[0].min(seconds(replay, &figure.long));
                 times[1] = times[1].min(seconds(replay, &figure.short));
             }
@@ -96,14 +96,14 @@ fn least(figures: &[Figure]) -> Vec<[f64; 2]> {
     figures.iter().zip(least).map(|(figure, machines)| machines.map(|times| step(figure, times))).collect()
 }
 
-/// The rows of the library and of the reference.
-pub fn rows() -> [Row; 2] {
+/// The rows of the libraries and of the reference.
+pub fn rows() -> [Row; 3] {
     let figures = figures();
     figures.iter().for_each(|figure| must_agree(&figure.long));
     let least = least(&figures);
-    [(0, "proved library"), (1, "reference")].map(|(machine, name)| {
-        let ns = |figure: usize| least[figure][machine];
-        Row { name: name.into(), ticks: [0, 1, 2].map(ns), lines: [3, 4].map(ns), characters: Some([5, 6].map(ns)) }
+    [0, 1, 2].map(|machine| {
+        let (name, ns) = (MACHINES[machine].0.into(), |figure: usize| least[figure][machine]);
+        Row { name, ticks: [0, 1, 2].map(ns), lines: [3, 4].map(ns), characters: Some([5, 6].map(ns)) }
     })
 }
 
@@ -131,8 +131,9 @@ fn notes() -> String {
         "
 Load: distances 524287, 393215, 262143, 131071, 77777, odd axes minus; slope FFF, speed F4240 or 2710, high-ON 33FF,
 low-ON 0, general outputs ABC000, input word 0, switch 0; at rest after a stopped move.
-Library and reference replay one list of calls. A tick is the least of {RUNS} runs with {} ticks less the least with
-{WARM_TICKS}, over {TIMED_TICKS}; a line the same with {} and {WARM_LINES} lines.
+Libraries and reference play one list of calls: the replay library all of it in one call, the others call by call.
+A tick is the least of {RUNS} runs with {} ticks less the least with {WARM_TICKS}, over {TIMED_TICKS}; a line the same
+with {} and {WARM_LINES} lines.
 A character that joins: {TIMED_LINES} lines of {} characters less so many of {}, all turned away by 4; an over-long one:
 one line of {} less one of {WARM_CHARACTERS}. CPU time of the thread.
 The digest of all answers is included: words, pulses and number of each tick; length, number and reply of

@@ -1,0 +1,62 @@
+//! The two machines that are compared, asked alike: the proved controller through its firmware library, the reference.
+
+use crate::temixohuel::Controller;
+use reference::{ByteAnswer, Machine, TickAnswer};
+
+/// What a machine tells and no call alters.
+#[derive(Clone, Copy, Debug, PartialEq, Eq)]
+pub struct Readings {
+    pub travels: [u32; 5],
+    pub positions: [i64; 5],
+    pub status: u32,
+    pub speed: u32,
+    pub slope: u32,
+}
+
+/// A machine that lists of calls are played to.
+pub trait Played: Sized {
+    fn power_on(switch: u8) -> (Self, u8);
+    fn byte(&mut self, b: u8, lent: &mut [u8]) -> ByteAnswer;
+    fn tick(&mut self, word: u32) -> TickAnswer;
+    fn readings(&self) -> Readings;
+}
+
+impl Played for Controller {
+    fn power_on(switch: u8) -> (Controller, u8) {
+        Controller::power_on(switch)
+    }
+
+    fn byte(&mut self, b: u8, lent: &mut [u8]) -> ByteAnswer {
+        let answer = Controller::byte(self, lent, b);
+        ByteAnswer { len: answer.length, number: answer.number }
+    }
+
+    fn tick(&mut self, word: u32) -> TickAnswer {
+        let answer = Controller::tick(self, word);
+        TickAnswer { pulses: answer.pulses, words: [answer.first, answer.second], number: answer.number }
+    }
+
+    fn readings(&self) -> Readings {
+        let (travels, positions, status) = (self.travels(), self.positions(), self.status() as u32);
+        Readings { travels, positions, status, speed: self.speed(), slope: self.slope() }
+    }
+}
+
+impl Played for Machine {
+    fn power_on(switch: u8) -> (Machine, u8) {
+        Machine::power_on(switch)
+    }
+
+    fn byte(&mut self, b: u8, lent: &mut [u8]) -> ByteAnswer {
+        Machine::byte(self, b, lent)
+    }
+
+    fn tick(&mut self, word: u32) -> TickAnswer {
+        Machine::tick(self, word)
+    }
+
+    fn readings(&self) -> Readings {
+        let (travels, positions, status) = (self.travels(), self.positions().map(i64::from), self.status());
+        Readings { travels, positions, status, speed: self.speed(), slope: self.slope() }
+    }
+}
