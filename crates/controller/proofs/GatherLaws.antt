@@ -1,5 +1,5 @@
--- The bytes of a stretch before its first 0D: each is a character that joins the line, with neither reply nor number, and
--- all together join it at once. Assumes nothing.
+-- The bytes of a stretch before its first 0D: each is a character that joins the line, with neither reply nor number,
+-- and all together join it at once. Assumes nothing.
 use Prim.Native.Nat.{ℕ}
 use mathlib.Core.Bool.{Bool, false, cond}
 use mathlib.Core.List.{List, [], _∷_, _++_, append-nil}
@@ -26,7 +26,8 @@ use Rattle.controller.specs.Inner.Power.{lineWith}
 pub character : (m : Machine) (b : ℕ) → eqb b 13 ≡ false
     → byteStep m b buffer ≡ record { machine = withLine m (m .line ++ (b ∷ [])); reply = []; number = 0 }
 character m b e =
-    ap (λ (t : Bool). answered m b (outcomeOf m (cond {A = Receipt} t (record { line = []; heard = heardLine (m .line) })
+    ap (λ (t : Bool). answered m b (outcomeOf m
+    (cond {A = Receipt} t (record { line = []; heard = heardLine (m .line) })
     (record { line = m .line ++ (b ∷ []); heard = Character }) .heard))) e
     ∙ ap (λ (t : Bool). record {
       machine = withLine m (cond {A = Receipt} t (record { line = []; heard = heardLine (m .line) })

@@ -7,3 +7,4 @@ pub mod SessionLaws
 mod LineLaws
 pub mod AfterLaws
 mod StretchLaws
+mod GatheredLaws

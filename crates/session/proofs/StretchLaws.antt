@@ -1,29 +1,21 @@
--- A stretch of characters, none of which is a line feed or 0D: what the bench is after them, and that they print nothing.
--- Assumes nothing.
+-- A stretch of characters, none of which is a line feed or 0D: what the bench is after them, and that they print
+-- nothing. Assumes nothing.
 use Prim.Native.Nat.{ℕ, _<_}
 use native.Mathlib.Omega.{arith}
 use mathlib.Core.Bool.{Bool, true, false, _||_}
 use mathlib.Core.List.{List, [], _∷_, _++_, append-nil}
-use mathlib.Core.Path.{_≡_, refl, sym, ap, subst, _∙_}
+use mathlib.Core.Path.{_≡_, refl, sym, ap, _∙_}
 use lib.Dec.{eqb}
-use lib.ListN.{length, getD, take}
+use lib.ListN.{length, getD}
 use lib.Seq.{append-snoc}
 use Rattle.laws.proofs.Pick.{on-true, on-false, by-bool}
 use Rattle.receiver.specs.Receiver.{before, beforeEnd}
-use Rattle.receiver.proofs.Laws.{before-take}
 use Rattle.machine.specs.State.{Machine}
 use Rattle.machine.specs.Steps as steps
 use Rattle.machine.specs.Steps.{byteStep}
-use Rattle.machine.specs.Calls.{Call, byte, Origin, given, run, state, from, bytes}
+use Rattle.machine.specs.Calls.{Call, byte, Origin, given, run, from, bytes}
 use Rattle.laws.proofs.Tests.{true-false}
-use Rattle.controller.specs.declared.state.Gathered as controller
-use Rattle.controller.specs.Held.{held, heldGathered}
-use Rattle.controller.specs.Reach.{Made}
 use Rattle.controller.proofs.GatherLaws.{character, run-on}
-use Rattle.session.specs.declared.kept.Kept.{Kept}
-use Rattle.session.specs.declared.Place.the-variants.{Start, Sending, Asking}
-use Rattle.session.specs.declared.Session.{Session}
-use Rattle.session.specs.Kept.{keeping, Keeping}
 use Rattle.session.specs.Session.{
   Place,
   starting,
@@ -40,14 +32,9 @@ use Rattle.session.specs.Session.{
   taken,
   heldPlace,
   keptIn,
-  heldBench,
-  Running,
-  Runs,
 }
 use Rattle.session.specs.Lines.{prints, after}
-use Rattle.session.specs.Stretch.{isMark, stretch, heldStretch, Silent, keepsOf}
-use Rattle.session.proofs.SessionLaws.{rests-lives, lives-running}
-use Rattle.session.proofs.AfterLaws.{after-lives}
+use Rattle.session.specs.Stretch.{isMark, stretch, keepsOf}
 
 -- ---- A byte that is neither
 
@@ -173,65 +160,3 @@ pub none-kept : (p : Place) (b : ℕ) → keepsOf (heldPlace p) b ≡ false → 
 none-kept starting b z = refl
 none-kept sending b z = refl
 none-kept (asking l) b z = true-false true refl z
-
--- ---- What is held of it
-
-nothing : (l : List ℕ) → length l ≡ 0 → l ≡ []
-nothing [] e = refl
-nothing (b ∷ l) e = absurd (omega arith)
-
-module _ (s : Session) (bs : List ℕ) where
-  module _ (n : ℕ) (k : n ≡ length (stretch bs)) where
-    -- No character.
-    pub none-gathered : n ≡ 0 → Runs s (λ x. s ≡ heldBench (after x (stretch bs)))
-    unfolding after
-    none-gathered z w h p e =
-        sym e ∙ ap (λ (l : List ℕ). heldBench (after (record { machine = state w h; place = p }) l))
-        (sym (nothing (stretch bs) (sym k ∙ z)))
-
-    -- Of a line that begins with T.
-    pub kept-gathered : (t : Bool) (more : Kept) → t ≡ keepsOf (s .place) (getD bs 0 0) → t ≡ true → 0 < n
-        → Keeping (s .kept) (λ l. more ≡ keeping (l ++ take n bs))
-        → Runs s (λ x. record { controller = s .controller; kept = more; place = Asking }
-        ≡ heldBench (after x (stretch bs)))
-    kept-gathered t more q y z r w h p e =
-        (λ i. record {
-          controller = sym (ap (λ (x : Session). x .controller) e) i;
-          kept = (r (keptIn p) (ap (λ (x : Session). x .kept) e)
-              ∙ ap (λ (l : List ℕ). keeping (keptIn p ++ l)) (ap (λ (j : ℕ). take j bs) k ∙ before-take isMark bs)) i;
-          place = Asking;
-        })
-        ∙ ap heldBench (sym (keeps-on (state w h) p bs (omega (arith, k))
-        (ap (λ (x : Session). keepsOf (x .place) (getD bs 0 0)) e ∙ (sym q ∙ y))))
-
-    -- Of any other line.
-    pub sent-gathered : (t : Bool) (g : controller.Gathered) → t ≡ keepsOf (s .place) (getD bs 0 0) → t ≡ false → 0 < n
-        → Made (s .controller) (λ m. g ≡ heldGathered m (take n bs))
-        → Runs s (λ x. record { controller = g .controller; kept = s .kept; place = Sending }
-        ≡ heldBench (after x (stretch bs)))
-    sent-gathered t g q y z r w h p e =
-        let v : keepsOf (heldPlace p) (getD bs 0 0) ≡ false =
-        ap (λ (x : Session). keepsOf (x .place) (getD bs 0 0)) e ∙ (sym q ∙ y) in
-        (λ i. record {
-          controller = (ap (λ (x : controller.Gathered). x .controller)
-              (r w h (ap (λ (x : Session). x .controller) e))
-              ∙ ap (λ (l : List ℕ). held (from (state w h) (bytes l [])))
-              (ap beforeEnd (ap (λ (j : ℕ). take j bs) k ∙ before-take isMark bs) ∙ stretch-sent bs)) i;
-          kept = (sym (ap (λ (x : Session). x .kept) e)
-              ∙ ap keeping (none-kept p (getD bs 0 0) v)) i;
-          place = Sending;
-        })
-        ∙ ap heldBench (sym (sends-on (state w h) p bs (omega (arith, k)) v))
-
-    -- All that `gather` promises.
-    pub gathered-told : (t : Session) → Running s → Runs s (λ x. t ≡ heldBench (after x (stretch bs)))
-        → Runs s (λ x. record { session = t; count = n } ≡ heldStretch x bs)
-        × (Runs s (λ x. Silent x bs) × Running t)
-    gathered-told t r q = (
-      (λ w h p e i. record { session = q w h p e i; count = k i }),
-      (
-        (λ w h p e rest. prints-on bs (record { machine = state w h; place = p }) rest),
-        subst Running (sym (q (r .switch) (r .history) (r .place) (r .made)))
-            (lives-running _ (after-lives (stretch bs) _ (rests-lives (r .switch) (r .history) (r .place)))),
-      ),
-    )

@@ -21,12 +21,14 @@ returns c =
     let t = w .before .before .before in
     let s = t .before .before in
     refuse-told (s .args .c) (s .args .ident) (now (s .args .buf)) (s .args .silent) _ _ _ _ (s .pre)
-    (not-true (s .args .silent) (w .before .before .if1 .taken)) (t .turned .ensures) (w .write-refusal .ensures .0) (w .write-refusal .ensures .1)
+    (not-true (s .args .silent) (w .before .before .if1 .taken)) (t .turned .ensures)
+    (w .write-refusal .ensures .0) (w .write-refusal .ensures .1)
 
 returns-2 : tie.Need-returns-2
 returns-2 c =
     let q = c .before .before .before .args in
-    refuse-silent (q .c) (q .ident) (now (q .buf)) (q .silent) _ _ (not-false (q .silent) (c .if1 .left)) (c .before .turned .ensures)
+    refuse-silent (q .c) (q .ident) (now (q .buf)) (q .silent) _ _ (not-false (q .silent) (c .if1 .left))
+    (c .before .turned .ensures)
 
 pub refuse-spec : {M : Type 1} → statement M
 refuse-spec =

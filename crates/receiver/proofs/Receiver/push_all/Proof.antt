@@ -1,5 +1,5 @@
--- Characters one after another. The invariant: the rest of them makes what all make. The measure is the characters left.
--- Assumes nothing.
+-- Characters one after another. The invariant: the rest of them makes what all make. The measure is the characters
+-- left. Assumes nothing.
 use Prim.Native.Nat.{_+_, _-_, _≤_}
 use borrow.Author.Needs.{needs}
 use native.Mathlib.Omega.{arith}

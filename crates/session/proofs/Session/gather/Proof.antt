@@ -6,7 +6,7 @@ use lib.Seq.{length-take-le}
 use Rattle.receiver.proofs.Laws.{before-short}
 use Rattle.session.specs.Stretch.{isMark}
 use Rattle.session.proofs.SessionLaws.{reached}
-use Rattle.session.proofs.StretchLaws.{none-gathered, kept-gathered, sent-gathered, gathered-told}
+use Rattle.session.proofs.GatheredLaws.{none-gathered, kept-gathered, sent-gathered, gathered-told}
 use Rattle.session.proofs.Session.gather.Statement.{statement}
 use Rattle.session.proofs.Session.gather.Tie as tie
 
