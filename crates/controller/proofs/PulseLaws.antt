@@ -134,7 +134,11 @@ module _ (m : Machine) (f : Fits m) (e : m .move .moving ≡ true) where
 
 -- A tick without a pulse.
 quiet-is : (m : Machine) → _≡_ {A = Ran}
-    (record { hot = heldHot m; pulses = each (λ k. pos 0); first = wordOf (heldHot m .wires) false false false false false })
+    (record {
+      hot = heldHot m;
+      pulses = each (λ k. pos 0);
+      first = wordOf (heldHot m .wires) false false false false false;
+    })
     (heldRan (quiet m))
 quiet-is m = λ i. record { hot = heldHot m; pulses = each (λ k. pos 0); first = still-is m i }
 

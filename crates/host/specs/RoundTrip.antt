@@ -6,6 +6,7 @@ use mathlib.Core.Bool.{true}
 use mathlib.Core.List.{List, [], _∷_, _++_}
 use mathlib.Core.Path.{_≡_}
 use lib.ListN.{length}
+use Rattle.digits.specs.Digits.{endByte}
 use Rattle.block.specs.Block.{frontOf}
 use Rattle.line.specs.declared.command.Command.{Command}
 use Rattle.line.specs.declared.Judged.the-variants.{Accepted}
@@ -59,13 +60,13 @@ heardAs r digits = Line (r .silent) (r .ident) (Accepted (r .command) digits)
 
 -- What m, with no half-received line, answers to it.
 abbrev pub answerTo : Machine → Request → ByteAnswer
-answerTo m r = answered m 13 (decided m (r .silent) (r .ident) (Accepted (r .command) (digitsOf (r .command))))
+answerTo m r = answered m endByte (decided m (r .silent) (r .ident) (Accepted (r .command) (digitsOf (r .command))))
 
 -- m is given the bytes of r's line one by one.
 pub record Obeys (m : Machine) (r : Request) (lent : ℕ → List ℕ) : Type 0 where
   -- the line's characters, and the 0D behind them
   pub chars : List ℕ
-  pub ended : lineOf r ≡ chars ++ (13 ∷ [])
+  pub ended : lineOf r ≡ chars ++ (endByte ∷ [])
   -- every byte but the last answers no reply and number 0, the last what r asks for
   pub answers : answersTo m [] lent (lineOf r) ≡ gathers m [] chars ++ (answerTo m r ∷ [])
   pub left : from m (callsOf lent (lineOf r) []) ≡ answerTo m r .machine

@@ -6,7 +6,7 @@ use mathlib.Core.List.{List, [], _∷_}
 use lib.Dec.{ltb, eqb}
 use lib.ListN.{length}
 use Rattle.laws.specs.Bits.{weight}
-use Rattle.digits.specs.Digits.{fourDigits, topBit, digitOf, capitalOf}
+use Rattle.digits.specs.Digits.{endByte, fourDigits, topBit, digitOf, capitalOf}
 use Rattle.digits.specs.declared.Ident.{Ident}
 use Rattle.digits.specs.declared.Ident.the-variants.{Absent, Given}
 use Rattle.block.specs.Block.{blockOf, over}
@@ -91,7 +91,7 @@ switchOf silent = weight silent 4
 
 -- W, 0 or 4, 0D.
 abbrev pub queryOf : Bool → List ℕ
-queryOf silent = letterW ∷ capitalOf (switchOf silent) ∷ 13 ∷ []
+queryOf silent = letterW ∷ capitalOf (switchOf silent) ∷ endByte ∷ []
 
 -- Letter, 0 or 4, six digits, the identification if given, 0D.
 abbrev pub fullOf : Bool → ℕ → ℕ → Ident → List ℕ

@@ -18,6 +18,7 @@ ghost use Rattle.host.specs.Writer.{
 };
 ghost use Rattle.host.specs.RoundTrip.{LineTrip, LineBack};
 use block::Block;
+use digits::END;
 use digits::Ident;
 use line::command;
 use line::command::Command;
@@ -26,8 +27,6 @@ mod content;
 
 // The least line buffer.
 const LINE_ROOM: usize = 10;
-// Byte 0D, which ends a line.
-const END: u8 = 13;
 
 // What the host asks for: a command, whether its line is silent, and its identification.
 pub struct Request {

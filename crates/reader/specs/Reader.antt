@@ -6,14 +6,14 @@ use mathlib.Core.List.{List, [], _∷_}
 use lib.Dec.{ltb, leb, eqb}
 use lib.IntN.{ℤ, pos, negsuc}
 use lib.ListN.{length, getD}
-use Rattle.digits.specs.Digits.{topBit, digitOf, numberOf}
+use Rattle.digits.specs.Digits.{endByte, topBit, digitOf, numberOf}
 use Rattle.digits.specs.declared.Digit.{Digit}
 use Rattle.digits.specs.declared.Digit.the-variants.{Other, Capital, Small}
 use Rattle.digits.specs.declared.Number.{Number}
 use Rattle.digits.specs.declared.Number.the-variants.{NotDigits, Value}
 use Rattle.digits.specs.declared.Ident.{Ident}
 use Rattle.digits.specs.declared.Ident.the-variants.{Absent, Given}
-use Rattle.line.specs.Ranges.{isWithin, isAxis, inputBits}
+use Rattle.line.specs.Ranges.{isWithin, isAxis, isOrder, inputBits}
 use Rattle.line.specs.Codes.{code, five, second}
 use Rattle.reply.specs.Reply.{letterU, letterS, letterSmallS, letterR, positionOf}
 use Rattle.host.specs.Writer.{identFits, isAbsent}
@@ -69,7 +69,7 @@ verdictIn switch n ident = onlyIf (isVerdict n ident) (verdict switch n ident)
 abbrev pub isEcho : ℕ → Bool
 isEcho n =
     cond (eqb (code n) 8) (isAxis (second n % 8))
-    (cond (isWithin (code n) 9 11) true
+    (cond (isOrder (code n)) true
     (cond (isWithin (code n) 13 14) (inputBits (five n))
     false))
 
@@ -123,6 +123,6 @@ sixIn s = getD s 2 0 ∷ getD s 3 0 ∷ getD s 4 0 ∷ getD s 5 0 ∷ getD s 6 0
 unfoldable pub readOf : List ℕ → Figures
 readOf s =
     onlyIf (isWithin (length s) 9 10)
-    (onlyIf (eqb (getD s (length s - 1) 0) 13)
+    (onlyIf (eqb (getD s (length s - 1) 0) endByte)
     (onlyIf (identFits (identIn s))
     (switchIn (getD s 0 0) (digitOf (getD s 1 0)) (numberOf (sixIn s)) (identIn s))))

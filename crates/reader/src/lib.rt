@@ -6,6 +6,7 @@ ghost use Rattle.reader.specs.ReadBack.{RepliesRead};
 ghost use Rattle.reader.specs.Reader.{figuresOf, digitsIn, switchIn, identIn, readOf};
 use crate::reading::Reading;
 use digits::Digit;
+use digits::END;
 use digits::Ident;
 use digits::Number;
 
@@ -14,8 +15,6 @@ pub mod reading;
 
 // The switch that is none.
 const NO_SWITCH: u8 = 12;
-// Byte 0D, which ends a block.
-const END: u8 = 13;
 
 // Six digits, letters in capitals.
 fn digits_in(letter: u8, switch: u8, number: Number, ident: Ident) -> Reading

@@ -5,6 +5,7 @@ use mathlib.Core.Bool.{Bool, true, false, cond, not, _&&_}
 use mathlib.Core.List.{List, [], _∷_, _++_}
 use mathlib.Core.Path.{_≡_}
 use lib.Dec.{eqb}
+use Rattle.digits.specs.Digits.{endByte}
 use Rattle.machine.specs.State.{Machine}
 use Rattle.machine.specs.Steps.{byteStep}
 use Rattle.session.specs.Asked.{askedOf}
@@ -46,7 +47,7 @@ doneBy a = record { bench = a .bench; printed = a .printed }
 
 -- A line that begins with T runs ticks or prints `?`; other lines go in with 0D for their line feed.
 abbrev pub lineDone : Machine → List ℕ → Done
-lineDone m cs = cond (beginsWithT cs) (doneBy (asks m (askedOf cs))) (goesIn m (cs ++ (13 ∷ [])))
+lineDone m cs = cond (beginsWithT cs) (doneBy (asks m (askedOf cs))) (goesIn m (cs ++ (endByte ∷ [])))
 
 -- No character is a line feed.
 abbrev pub isLine : List ℕ → Bool

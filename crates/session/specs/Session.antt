@@ -5,6 +5,7 @@ use mathlib.Core.List.{List, [], _∷_, _++_}
 use mathlib.Core.Path.{_≡_}
 use lib.Dec.{ltb, eqb}
 use lib.ListN.{length, replicate}
+use Rattle.digits.specs.Digits.{endByte}
 use Rattle.laws.specs.Axes.{each}
 use Rattle.block.specs.Block.{over}
 use Rattle.machine.specs.State.{Machine}
@@ -49,7 +50,7 @@ fresh = record { machine = powerOn 0; place = starting }
 
 -- Replies print with a line feed for 0D.
 abbrev pub shownByte : ℕ → ℕ
-shownByte c = cond (eqb c 13) 10 c
+shownByte c = cond (eqb c endByte) 10 c
 
 abbrev pub shown : List ℕ → List ℕ
 shown [] = []
@@ -85,8 +86,8 @@ asks m (Ticks n w) = record {
 
 -- The end of a line: other lines go in with 0D for their line feed.
 abbrev pub endedAt : Machine → Place → Answer
-endedAt m starting = sends m 13 starting
-endedAt m sending = sends m 13 starting
+endedAt m starting = sends m endByte starting
+endedAt m sending = sends m endByte starting
 endedAt m (asking l) = asks m (askedOf l)
 
 abbrev pub ended : Bench → Answer

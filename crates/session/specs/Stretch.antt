@@ -5,6 +5,7 @@ use mathlib.Core.List.{List, _++_}
 use mathlib.Core.Path.{_≡_}
 use lib.Dec.{eqb}
 use lib.ListN.{length}
+use Rattle.digits.specs.Digits.{endByte}
 use Rattle.receiver.specs.Receiver.{before}
 use Rattle.session.specs.declared.Gathered.{Gathered}
 use Rattle.session.specs.declared.Place.{Place}
@@ -14,7 +15,7 @@ use Rattle.session.specs.Lines.{prints, after}
 
 -- A line feed or 0D.
 abbrev pub isMark : ℕ → Bool
-isMark b = eqb b 10 || eqb b 13
+isMark b = eqb b 10 || eqb b endByte
 
 -- The bytes before the first of them.
 abbrev pub stretch : List ℕ → List ℕ

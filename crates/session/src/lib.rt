@@ -18,16 +18,15 @@ ghost use Rattle.session.specs.Stretch.{isMark, stretch, heldStretch, Si
 use crate::asked::Asked;
 use crate::kept::Kept;
 use controller::Controller;
+use digits::END;
 
 mod asked;
 mod kept;
 mod text;
 mod ticks;
 
-// The line feed, which ends a line of the input, and byte 0D, which goes in for it.
+// The line feed, which ends a line of the input; byte 0D goes in for it.
 const FEED: u8 = 10;
-
-const END: u8 = 13;
 
 // The letter T, and the question mark.
 const LETTER: u8 = 84;

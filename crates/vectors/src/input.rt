@@ -3,9 +3,7 @@ use crate::host_end;
 use crate::lists;
 use crate::lists::List;
 use crate::text;
-
-// The line feed, which ends a line.
-const FEED: u8 = 10;
+use crate::text::FEED;
 
 // The most characters of a line.
 const LONGEST: usize = 100;

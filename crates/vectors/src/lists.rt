@@ -3,6 +3,7 @@ ghost use Prim.Native.Nat.{_+_, _≤_};
 use crate::form;
 use crate::text;
 use crate::text::Text;
+use digits::END;
 
 // The most calls, and their bytes.
 const MOST: usize = 4096;
@@ -16,9 +17,7 @@ const BYTE: u8 = 1;
 
 const READINGS: u8 = 2;
 
-// Byte 0D, which ends a line, and the buffer lent with each of its bytes.
-const END: u8 = 13;
-
+// The buffer lent with each byte of a line.
 const LENT: u8 = 120;
 
 // How many calls are gathered, and the first and the last switch.

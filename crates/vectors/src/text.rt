@@ -5,7 +5,8 @@ use libc::STDOUT_FILENO;
 // The longest line and its line feed.
 const ROOM: usize = 160;
 
-const FEED: u8 = 10;
+// The line feed, which ends a line.
+pub(crate) const FEED: u8 = 10;
 
 pub(crate) struct Text {
     bytes: [u8; ROOM],

@@ -17,7 +17,11 @@ returns : tie.Need-returns
 returns c =
     let q = c .before .before .before .before .before .before .before .args in
     let w = c .before .before .axis-cells in
-    λ i. begunGiven (q .next) (q .hot) (q .master) (record { rests = w .ensures .0 i; fires = w .ensures .1 .0 i; still = w .ensures .1 .1 i })
+    λ i. begunGiven (q .next) (q .hot) (q .master) (record {
+      rests = w .ensures .0 i;
+      fires = w .ensures .1 .0 i;
+      still = w .ensures .1 .1 i;
+    })
 
 pub begun-spec : {M : Type 1} → statement M
 begun-spec = tie.close (tie.spec mul-t19 array-read-t22 axis-cells-requires returns)
