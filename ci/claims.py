@@ -32,9 +32,15 @@ def citations(page):
                     yield number, cited, quoted
 
 
+def public(lib):
+    """The files of a library that others can name: its root, and each module declared with `pub mod`."""
+    text = lib.read_text(encoding="utf-8")
+    return [lib] + [lib.parent / f"{name}.rt" for name in re.findall(r"^pub mod (\w+);", text, re.M)]
+
+
 def entries(root):
     """Each public function of a library, as the table names it: its file under crates/, and its name."""
-    for lib in sorted((root / "crates").glob("*/src/lib.rt")):
+    for lib in sorted(source for lib in (root / "crates").glob("*/src/lib.rt") for source in public(lib)):
         kind = None
         for line in lib.read_text(encoding="utf-8").splitlines():
             block = re.match(r"impl (\w+)", line)

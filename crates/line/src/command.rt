@@ -113,7 +113,7 @@ fn distance_fits(axis: u8, length: u32) -> bool
 }
 
 // The codes of the orders that name nothing else.
-pub fn is_order(code: u8) -> bool
+pub(crate) fn is_order(code: u8) -> bool
     ensures { λ r. ⌜ r ≡ isOrder code ⌝ }
 {
     within(code as u32, 9, 11)

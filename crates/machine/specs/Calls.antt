@@ -4,6 +4,7 @@ use Prim.Native.Char.{code}
 use Prim.Native.String.{String, [] as []ᵀ, _∷_ as _∷ᵀ_}
 use mathlib.Core.List.{List, [], _∷_}
 use lib.ListN.{replicate}
+use Rattle.digits.specs.Digits.{endByte}
 use Rattle.machine.specs.State.{Machine}
 use Rattle.machine.specs.Steps.{powerOn, byteStep, tickStep}
 
@@ -53,7 +54,7 @@ bytes (b ∷ bs) h = bytes bs (byte b buffer ∷ h)
 
 -- A line: its characters and 0D.
 abbrev pub line : String → List Call → List Call
-line l h = byte 13 buffer ∷ bytes (chars l) h
+line l h = byte endByte buffer ∷ bytes (chars l) h
 
 -- Lines, the first of them first.
 abbrev pub lines : List String → List Call → List Call

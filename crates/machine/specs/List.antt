@@ -2,19 +2,17 @@
 --
 -- Distances, directions, the dwell, stored starts and masters are read off the accepted lines and the ticks, pulses off
 -- the answers of ticks; no counter is kept beside them. `travel` and `position` are the figures that the replies to Q
--- 0-4 and q 0-4 are made from. Lists have the latest call first, from power-on
--- with a switch.
+-- 0-4 and q 0-4 are made from. Lists have the latest call first, from power-on with a switch.
 use Prim.Native.Nat.{ℕ, _+_}
 use mathlib.Core.Bool.{Bool, false, cond, not, _&&_, _||_}
 use mathlib.Core.List.{List, [], _∷_}
 use lib.Dec.{eqb}
 use lib.IntN.{ℤ, pos, _+ℤ_, natAbs}
-use Rattle.machine.specs.State.{none, start, Pause}
-use Rattle.laws.specs.Bits.{bit, weight}
-use Rattle.machine.specs.Stops.{status}
+use Rattle.machine.specs.State.{none, Pause}
+use Rattle.laws.specs.Bits.{weight}
 use Rattle.machine.specs.Replies.{travelOf, positionOf}
-use Rattle.machine.specs.Steps.{accepted, Tried}
-use Rattle.machine.specs.Calls.{Call, tick, after, state}
+use Rattle.machine.specs.Steps.{Tried}
+use Rattle.machine.specs.Calls.{Call, state}
 use Rattle.machine.specs.Roles.{
   atStart,
   begins,
@@ -24,7 +22,6 @@ use Rattle.machine.specs.Roles.{
   lineOf,
   minusBy,
   moves,
-  named,
   pauseAfter,
   resetBy,
   sent,

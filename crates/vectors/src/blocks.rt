@@ -4,11 +4,9 @@ use crate::form;
 use crate::text;
 use crate::text::Text;
 use digits::Ident;
+use digits::TOP_BIT;
 use reader::reading::Reading;
 use reply::Position;
-
-// What a position has added.
-const HALF: u32 = 524288;
 
 // The identification.
 fn with_ident(text: Text, ident: Ident) -> Text {
@@ -61,10 +59,10 @@ fn minus_bit(minus: bool) -> u8 {
 // A position by its sign and its magnitude.
 fn placed(switch: u8, axis: u8, position: Position, ident: Ident) -> Text {
     let p = position.0;
-    if p < HALF {
-        return of_axis(b'P', switch, axis, b'-', HALF - p, ident);
+    if p < TOP_BIT {
+        return of_axis(b'P', switch, axis, b'-', TOP_BIT - p, ident);
     }
-    of_axis(b'P', switch, axis, b'+', p - HALF, ident)
+    of_axis(b'P', switch, axis, b'+', p - TOP_BIT, ident)
 }
 
 // What a block says.
