@@ -24,16 +24,13 @@ use Rattle.controller.specs.Inner.Motion.{
   axisStepGiven,
   wordOf,
   restOf,
-  atRestOf,
-  underWayOf,
-  advanceGiven,
-  paceGiven,
   dwellLeftOf,
   runsGiven,
   runsPaced,
   runsOf,
   heldRan,
 }
+use Rattle.controller.specs.Inner.Ramp.{atRestOf, underWayOf, advanceGiven, paceGiven}
 use Rattle.controller.proofs.TickLaws.{still-is}
 use Rattle.controller.proofs.AxisLaws.{axis-is}
 

@@ -15,7 +15,7 @@ use Rattle.reply.specs.declared.Travel.{Travel}
 use Rattle.reply.specs.declared.Position.{Position}
 use Rattle.controller.specs.declared.motion.Share.{Share}
 use Rattle.controller.specs.declared.motion.Axis.{Axis}
-use Rattle.controller.specs.declared.motion.Paced.{Paced}
+use Rattle.controller.specs.declared.ramp.Paced.{Paced}
 use Rattle.controller.specs.declared.motion.Ran.{Ran}
 use Rattle.controller.specs.declared.state.Hot.{Hot}
 use Rattle.controller.specs.declared.state.Plan.{Plan}
@@ -24,7 +24,6 @@ use Rattle.controller.specs.declared.state.Counters.{Counters}
 use Rattle.controller.specs.declared.state.Settings.{Settings}
 use Rattle.controller.specs.Inner.Parts.{travelAt, positionAt}
 use Rattle.controller.specs.Inner.Motion.{
-  rampOf,
   shareStepOf,
   axisStepGiven,
   axisStepOf,
@@ -32,17 +31,14 @@ use Rattle.controller.specs.Inner.Motion.{
   AxisStepFits,
   runsAxis,
   wordOf,
-  standsOf,
   runsOf,
-  advanceOf,
-  paceGiven,
-  paceOf,
   dwellLeftOf,
   steppedOf,
   runsGiven,
   runsPaced,
   RunFits,
 }
+use Rattle.controller.specs.Inner.Ramp.{rampOf, standsOf, advanceOf, paceGiven, paceOf}
 
 pub mod-once : (n m : ℕ) → m ≤ n → n < m + m → n - m ≡ n % m
 mod-once n m h k =

@@ -2,6 +2,7 @@
 -- file for each module of src/. The function `f` has `fOf`, its whole answer; `fGiven`, the same with answers of its
 -- callees or its tests given; with another word behind its name, a part of it; `Fits`, what keeps it in range.
 pub mod Parts
+pub mod Ramp
 pub mod Motion
 pub mod Watch
 pub mod Start

@@ -31,6 +31,7 @@ mod line_end;
 mod motion;
 mod orders;
 mod power;
+mod ramp;
 mod settings;
 mod start;
 pub mod state;

@@ -6,8 +6,8 @@ use mathlib.Core.Path.{refl, sym, subst}
 use native.Mathlib.Nat.{mul-le-mul}
 use Rattle.laws.proofs.Pick.{on-true, on-false, on-le, on-gt}
 use Rattle.machine.proofs.FitLaws.{braked-small, towards-small}
-use Rattle.controller.proofs.motion.ramp.Statement.{statement}
-use Rattle.controller.proofs.motion.ramp.Tie as tie
+use Rattle.controller.proofs.ramp.ramp.Statement.{statement}
+use Rattle.controller.proofs.ramp.ramp.Tie as tie
 
 returns : tie.Need-returns
 returns c = (on-true _ _ _ _ (c .before .if1 .taken) (omega arith), omega arith)

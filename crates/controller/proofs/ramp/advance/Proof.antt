@@ -3,8 +3,8 @@ use borrow.Author.Needs.{needs}
 use native.Mathlib.Omega.{arith}
 use mathlib.Core.Bool.{true, false}
 use Rattle.laws.proofs.Pick.{on-lt, on-ge, on-eq, on-ne}
-use Rattle.controller.proofs.motion.advance.Statement.{statement}
-use Rattle.controller.proofs.motion.advance.Tie as tie
+use Rattle.controller.proofs.ramp.advance.Statement.{statement}
+use Rattle.controller.proofs.ramp.advance.Tie as tie
 
 add-grown : tie.Need-add-grown
 add-grown c = search needs

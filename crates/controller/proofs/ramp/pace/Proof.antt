@@ -6,9 +6,9 @@ use Prim.Native.Nat.{ℕ}
 use mathlib.Core.Path.{refl, sym, ap, _∙_}
 use borrow.Author.Tests.{not-false}
 use Rattle.laws.proofs.Pick.{on-true, on-false}
-use Rattle.controller.specs.Inner.Motion.{advanceOf}
-use Rattle.controller.proofs.motion.pace.Statement.{statement}
-use Rattle.controller.proofs.motion.pace.Tie as tie
+use Rattle.controller.specs.Inner.Ramp.{advanceOf}
+use Rattle.controller.proofs.ramp.pace.Statement.{statement}
+use Rattle.controller.proofs.ramp.pace.Tie as tie
 
 returns : tie.Need-returns
 returns c = on-true _ _ _ _ (c .if1 .taken) refl

@@ -1,7 +1,7 @@
 -- `stands` meets its contract: each return, by the tests and the answers that led there. Assumes nothing.
 use borrow.Author.Needs.{needs}
-use Rattle.controller.proofs.motion.stands.Statement.{statement}
-use Rattle.controller.proofs.motion.stands.Tie as tie
+use Rattle.controller.proofs.ramp.stands.Statement.{statement}
+use Rattle.controller.proofs.ramp.stands.Tie as tie
 
 returns : tie.Need-returns
 returns c = rw (c .before .if1 .taken)

@@ -1,8 +1,8 @@
 -- `approach` meets its contract: each return, by the tests and the answers that led there. Assumes nothing.
 use borrow.Author.Needs.{needs}
 use Rattle.controller.proofs.RampLaws.{up-there, up-some, down-there, down-some}
-use Rattle.controller.proofs.motion.approach.Statement.{statement}
-use Rattle.controller.proofs.motion.approach.Tie as tie
+use Rattle.controller.proofs.ramp.approach.Statement.{statement}
+use Rattle.controller.proofs.ramp.approach.Tie as tie
 
 returns : tie.Need-returns
 returns c = up-there _ _ _ (c .before .if1 .taken) (c .if2 .taken)
