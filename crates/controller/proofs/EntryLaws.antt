@@ -58,8 +58,9 @@ use Rattle.controller.specs.declared.state.Hot.{Hot}
 use Rattle.controller.specs.declared.motion.Ran.{Ran}
 use Rattle.controller.specs.declared.start.Waited.{Waited}
 use Rattle.controller.specs.Held.{held, heldHot, heldCold, heldPlan, heldPower, heldByte, heldTick}
-use Rattle.controller.specs.Inner.Motion as motion
-use Rattle.controller.specs.Inner.Motion.{runsOf, heldRan, RunFits, WiresFit}
+use Rattle.controller.specs.Inner.Words as words
+use Rattle.controller.specs.Inner.Motion.{runsOf, heldRan, RunFits}
+use Rattle.controller.specs.Inner.Words.{WiresFit}
 use Rattle.controller.specs.Inner.Watch.{takesOf, stopsOf}
 use Rattle.controller.specs.Inner.Start.{waitsOf, StartFits, WaitFits}
 use Rattle.controller.specs.Inner.Orders.{zeroWatchOf}
@@ -142,7 +143,7 @@ module _ (m : Machine) (w : ℕ) (f : Fits m) (self : Controller) (e : held m �
 
   pub tick-is : (waited : Waited) (ran : Ran) (second : ℕ) → w ≤ 16777215
       → waited ≡ record { hot = heldHot (looks m w); number = failure (tries (takes m w)) }
-      → ran ≡ heldRan (runs (stops (looks m w))) → second ≡ motion.restOf (ran .hot .wires)
+      → ran ≡ heldRan (runs (stops (looks m w))) → second ≡ words.restOf (ran .hot .wires)
       → _≡_ {A = TickAnswer} (record {
         controller = record { hot = ran .hot; cold = self .cold };
         first = ran .first;
@@ -156,14 +157,14 @@ module _ (m : Machine) (w : ℕ) (f : Fits m) (self : Controller) (e : held m �
       (_∙_ {b = record {
         controller = record { hot = heldRan (runs (stops (looks m w))) .hot; cold = heldCold m };
         first = heldRan (runs (stops (looks m w))) .first;
-        second = motion.restOf (heldRan (runs (stops (looks m w))) .hot .wires);
+        second = words.restOf (heldRan (runs (stops (looks m w))) .hot .wires);
         pulses = heldRan (runs (stops (looks m w))) .pulses;
         number = failure (tries (takes m w));
       }}
       (λ i. record {
         controller = record { hot = q i .hot; cold = sym e i .cold };
         first = q i .first;
-        second = (r ∙ ap (λ (x : Ran). motion.restOf (x .hot .wires)) q) i;
+        second = (r ∙ ap (λ (x : Ran). words.restOf (x .hot .wires)) q) i;
         pulses = q i .pulses;
         number = p i .number;
       })

@@ -22,14 +22,13 @@ use Rattle.controller.specs.Inner.Parts.{withCounters, withRun, withPaus
 use Rattle.controller.specs.Inner.Motion.{
   shareStepOf,
   axisStepGiven,
-  wordOf,
-  restOf,
   dwellLeftOf,
   runsGiven,
   runsPaced,
   runsOf,
   heldRan,
 }
+use Rattle.controller.specs.Inner.Words.{wordOf, restOf}
 use Rattle.controller.specs.Inner.Ramp.{atRestOf, underWayOf, advanceGiven, paceGiven}
 use Rattle.controller.proofs.TickLaws.{still-is}
 use Rattle.controller.proofs.AxisLaws.{axis-is}

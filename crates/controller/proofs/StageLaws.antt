@@ -16,7 +16,8 @@ use Rattle.controller.specs.declared.state.Cold.{Cold}
 use Rattle.controller.specs.declared.state.TickAnswer.{TickAnswer}
 use Rattle.controller.specs.declared.state.Settings.{Settings}
 use Rattle.controller.specs.Held.{heldSettings, heldPlan, heldHot, heldCold, heldTick}
-use Rattle.controller.specs.Inner.Motion.{restOf, runsOf, heldRan, RunFits}
+use Rattle.controller.specs.Inner.Motion.{runsOf, heldRan, RunFits}
+use Rattle.controller.specs.Inner.Words.{restOf}
 use Rattle.controller.specs.Inner.Watch.{stopsOf}
 use Rattle.controller.specs.Inner.Start.{waitsOf, WaitFits}
 use Rattle.controller.proofs.TickLaws.{stops-is, rest-is}

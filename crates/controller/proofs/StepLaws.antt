@@ -30,7 +30,6 @@ use Rattle.controller.specs.Inner.Motion.{
   AxisFits,
   AxisStepFits,
   runsAxis,
-  wordOf,
   runsOf,
   dwellLeftOf,
   steppedOf,
@@ -38,6 +37,7 @@ use Rattle.controller.specs.Inner.Motion.{
   runsPaced,
   RunFits,
 }
+use Rattle.controller.specs.Inner.Words.{wordOf}
 use Rattle.controller.specs.Inner.Ramp.{rampOf, standsOf, advanceOf, paceGiven, paceOf}
 
 pub mod-once : (n m : ℕ) → m ≤ n → n < m + m → n - m ≡ n % m

@@ -19,7 +19,7 @@ use Rattle.machine.specs.Stops.{takes, stops, stopping, marks, blocked, sensorA
 use Rattle.machine.specs.Outputs.{word}
 use Rattle.controller.specs.Held.{heldSettings, heldPlan, heldHot}
 use Rattle.controller.specs.Inner.Parts.{withWires}
-use Rattle.controller.specs.Inner.Motion.{wordOf, restOf, WiresFit}
+use Rattle.controller.specs.Inner.Words.{wordOf, restOf, WiresFit}
 use Rattle.controller.specs.Inner.Watch.{takesOf, limitOrWatchOf, causesGiven, stopsGiven, stopsMet, stopsOf}
 
 -- What the five axes have, at one of them.

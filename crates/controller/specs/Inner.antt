@@ -3,6 +3,7 @@
 -- callees or its tests given; with another word behind its name, a part of it; `Fits`, what keeps it in range.
 pub mod Parts
 pub mod Ramp
+pub mod Words
 pub mod Motion
 pub mod Watch
 pub mod Start

@@ -37,6 +37,7 @@ mod start;
 pub mod state;
 mod status;
 mod watch;
+mod words;
 
 // Power-on. The theorem about every list of calls, the marked table and computed lists stand here as promises, so that
 // the gate keeps them: they speak of the machine whose held values every entry answers. The same theorem over the
@@ -158,7 +159,7 @@ impl Controller {
         let ran = motion::runs(settings, stopped);
         let hot = ran.hot;
         let wires = hot.wires;
-        let second = motion::rest(wires);
+        let second = words::rest(wires);
         let pulses = ran.pulses;
         let controller = Controller { hot, cold };
         TickAnswer {

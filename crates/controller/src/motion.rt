@@ -1,17 +1,13 @@
-// The pulses of a tick: shares, axes, output words (paper 01, "Shares").
+// The pulses of a tick: shares and axes (paper 01, "Shares").
 ghost use mathlib.Core.Path.{_≡_};
 ghost use Prim.Native.Nat.{_≤_, _<_};
 ghost use Rattle.controller.specs.Inner.Motion.{
   shareStepOf,
   axisStepOf,
-  levelOf,
-  wordOf,
-  restOf,
   dwellLeftOf,
   steppedOf,
   runsOf,
   AxisStepFits,
-  WiresFit,
   RunFits,
 };
 use crate::ramp;
@@ -20,7 +16,7 @@ use crate::state::Hot;
 use crate::state::Plan;
 use crate::state::Run;
 use crate::state::Settings;
-use crate::state::Wires;
+use crate::words;
 use reply::Position;
 use reply::Travel;
 
@@ -104,40 +100,6 @@ fn axis_step(fires: bool, plan: Plan, counters: Counters, length: u32, k: usize)
     }
 }
 
-// What an axis adds to the first word.
-fn level(wires: Wires, k: usize, on: bool) -> u32
-    requires { ⌜ (k < 5) × WiresFit wires ⌝ }
-    ensures { λ r. ⌜ (r ≡ levelOf wires k on) × (r < 16777216) ⌝ }
-{
-    let cells = wires.cells;
-    if on {
-        return cells.fires[k];
-    }
-    cells.rests[k]
-}
-
-// The output word in which these axes pulse.
-fn word(wires: Wires, a: bool, b: bool, c: bool, d: bool, e: bool) -> u32
-    requires { ⌜ WiresFit wires ⌝ }
-    ensures { λ r. ⌜ r ≡ wordOf wires a b c d e ⌝ }
-{
-    wires.general
-        + level(wires, 0, a)
-        + level(wires, 1, b)
-        + level(wires, 2, c)
-        + level(wires, 3, d)
-        + level(wires, 4, e)
-}
-
-// The output word at rest, which is that of every second half.
-pub(crate) fn rest(wires: Wires) -> u32
-    requires { ⌜ WiresFit wires ⌝ }
-    ensures { λ r. ⌜ r ≡ restOf wires ⌝ }
-{
-    let cells = wires.cells;
-    wires.general + cells.still
-}
-
 // The ticks of the dwell that are left: the end of a move begins one.
 fn dwell_left(ends: bool, dwell: u32, left: u32) -> u32
     requires { ⌜ dwell ≤ 16383 ⌝ }
@@ -206,7 +168,7 @@ pub(crate) fn runs(settings: Settings, hot: Hot) -> Ran
     let d = axis_step(fires, plan, counters, length, 3);
     let e = axis_step(fires, plan, counters, length, 4);
     let pulses = [a.pulse, b.pulse, c.pulse, d.pulse, e.pulse];
-    let first = word(wires, a.on, b.on, c.on, d.on, e.on);
+    let first = words::word(wires, a.on, b.on, c.on, d.on, e.on);
     let left = dwell_left(paced.ends, settings.dwell, hot.pause.left);
     let run = paced.run;
     let next = stepped(hot, run, left, a, b, c, d, e);

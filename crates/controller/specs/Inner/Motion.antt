@@ -16,13 +16,13 @@ use Rattle.controller.specs.declared.state.Settings.{Settings}
 use Rattle.controller.specs.declared.state.Plan.{Plan}
 use Rattle.controller.specs.declared.state.Run.{Run}
 use Rattle.controller.specs.declared.state.Counters.{Counters}
-use Rattle.controller.specs.declared.state.Wires.{Wires}
 use Rattle.controller.specs.declared.motion.Share.{Share}
 use Rattle.controller.specs.declared.motion.Axis.{Axis}
 use Rattle.controller.specs.declared.ramp.Paced.{Paced}
 use Rattle.controller.specs.declared.motion.Ran.{Ran}
 use Rattle.controller.specs.Held.{heldHot}
 use Rattle.controller.specs.Inner.Ramp.{paceOf, PaceFits}
+use Rattle.controller.specs.Inner.Words.{wordOf, WiresFit}
 use Rattle.controller.specs.Inner.Parts.{withCounters, withRun, withPause, travelAt, positionAt}
 
 -- ---- Shares
@@ -71,28 +71,6 @@ pub record AxisFits (p : Plan) (c : Counters) (length k : ℕ) : Type 0 where
 -- The same in any tick.
 abbrev pub AxisStepFits : Bool → Plan → Counters → ℕ → ℕ → Type 0
 AxisStepFits fires p c length k = fires ≡ true → AxisFits p c length k
-
--- ---- Output words by their parts
-
--- What an axis adds to the first word.
-abbrev pub levelOf : Wires → ℕ → Bool → ℕ
-levelOf w k on = cond on (getD (w .cells .fires) k 0) (getD (w .cells .rests) k 0)
-
--- The output word in which these axes pulse.
-abbrev pub wordOf : Wires → Bool → Bool → Bool → Bool → Bool → ℕ
-wordOf w a b c d e =
-    w .general + levelOf w 0 a + levelOf w 1 b + levelOf w 2 c + levelOf w 3 d + levelOf w 4 e
-
--- The output word at rest.
-abbrev pub restOf : Wires → ℕ
-restOf w = w .general + w .cells .still
-
--- What keeps a word's sum in range.
-pub record WiresFit (w : Wires) : Type 0 where
-  pub general : w .general < 16777216
-  pub rests : (k : ℕ) → k < 5 → getD (w .cells .rests) k 0 < 16777216
-  pub fires : (k : ℕ) → k < 5 → getD (w .cells .fires) k 0 < 16777216
-  pub still : w .cells .still < 16777216
 
 -- ---- A tick of a move
 

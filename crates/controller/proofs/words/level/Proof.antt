@@ -2,8 +2,8 @@
 use borrow.Author.Needs.{needs}
 use mathlib.Core.Path.{refl}
 use Rattle.laws.proofs.Pick.{on-true, on-false}
-use Rattle.controller.proofs.motion.level.Statement.{statement}
-use Rattle.controller.proofs.motion.level.Tie as tie
+use Rattle.controller.proofs.words.level.Statement.{statement}
+use Rattle.controller.proofs.words.level.Tie as tie
 
 mul-result : tie.Need-mul-result
 mul-result c = search needs
