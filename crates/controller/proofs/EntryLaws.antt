@@ -56,13 +56,14 @@ use Rattle.controller.specs.declared.state.ByteAnswer.{ByteAnswer}
 use Rattle.controller.specs.declared.state.TickAnswer.{TickAnswer}
 use Rattle.controller.specs.declared.state.Hot.{Hot}
 use Rattle.controller.specs.declared.motion.Ran.{Ran}
-use Rattle.controller.specs.declared.start.Waited.{Waited}
+use Rattle.controller.specs.declared.dwell.Waited.{Waited}
 use Rattle.controller.specs.Held.{held, heldHot, heldCold, heldPlan, heldPower, heldByte, heldTick}
 use Rattle.controller.specs.Inner.Words as words
 use Rattle.controller.specs.Inner.Motion.{runsOf, heldRan, RunFits}
 use Rattle.controller.specs.Inner.Words.{WiresFit}
 use Rattle.controller.specs.Inner.Watch.{takesOf, stopsOf}
-use Rattle.controller.specs.Inner.Start.{waitsOf, StartFits, WaitFits}
+use Rattle.controller.specs.Inner.Start.{StartFits}
+use Rattle.controller.specs.Inner.Dwell.{waitsOf, WaitFits}
 use Rattle.controller.specs.Inner.Orders.{zeroWatchOf}
 use Rattle.controller.specs.Inner.Status.{readingsOf}
 use Rattle.controller.specs.Inner.LineEnd.{refusedOf, refusalTo, obeyedOf, replyTo, linedOf, lineReply}

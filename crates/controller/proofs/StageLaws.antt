@@ -19,7 +19,7 @@ use Rattle.controller.specs.Held.{heldSettings, heldPlan, heldHot, heldC
 use Rattle.controller.specs.Inner.Motion.{runsOf, heldRan, RunFits}
 use Rattle.controller.specs.Inner.Words.{restOf}
 use Rattle.controller.specs.Inner.Watch.{stopsOf}
-use Rattle.controller.specs.Inner.Start.{waitsOf, WaitFits}
+use Rattle.controller.specs.Inner.Dwell.{waitsOf, WaitFits}
 use Rattle.controller.proofs.TickLaws.{stops-is, rest-is}
 use Rattle.controller.proofs.StartLaws.{waits-is, wait-fits}
 use Rattle.controller.proofs.PulseLaws.{run-is}

@@ -17,19 +17,11 @@ use Rattle.machine.specs.Starts.{outside, final, startNumber, begun}
 use Rattle.machine.specs.Steps.{Tried, untried, failed, began, tryWaiting, tryStart, tries, waits, failure}
 use Rattle.machine.proofs.PositionLaws.{bias-small, leaves, leaves-is}
 use Rattle.machine.proofs.FitLaws.{Fits, WaitingFits}
-use Rattle.controller.specs.declared.start.Waited.{Waited}
+use Rattle.controller.specs.declared.dwell.Waited.{Waited}
 use Rattle.controller.specs.Held.{heldSettings, heldPlan, heldWaiting, heldHot}
 use Rattle.controller.specs.Inner.Parts.{runOf, withCounters, withRun, withPause, positionAt}
-use Rattle.controller.specs.Inner.Start.{
-  startNumberOf,
-  StartFits,
-  begunOf,
-  failedOf,
-  dueGiven,
-  dueOf,
-  waitsOf,
-  WaitFits,
-}
+use Rattle.controller.specs.Inner.Start.{startNumberOf, StartFits, begunOf}
+use Rattle.controller.specs.Inner.Dwell.{failedOf, dueGiven, dueOf, waitsOf, WaitFits}
 use Rattle.controller.proofs.TickLaws.{each-at}
 
 -- ---- The number that turns a start away

@@ -27,6 +27,7 @@ use receiver::Receiver;
 use reply::Position;
 use reply::Travel;
 
+mod dwell;
 mod line_end;
 mod motion;
 mod orders;
@@ -153,7 +154,7 @@ impl Controller {
         let next = cold.next;
         let was = self.hot;
         let taken = watch::takes(settings, was, word);
-        let waited = start::waits(settings, next, cold.switch, taken);
+        let waited = dwell::waits(settings, next, cold.switch, taken);
         let looked = waited.hot;
         let stopped = watch::stops(settings, looked);
         let ran = motion::runs(settings, stopped);

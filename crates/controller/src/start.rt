@@ -1,6 +1,6 @@
-// A start: what turns it away, what it begins, and the dwell that it may wait for (paper 01, "Turned away" 12 to 17).
+// A start: what turns it away, and what it begins (paper 01, "Turned away" 12 to 17).
 ghost use mathlib.Core.Path.{_≡_};
-ghost use Prim.Native.Nat.{_≤_, _<_, _-_};
+ghost use Prim.Native.Nat.{_≤_, _<_};
 ghost use Rattle.controller.specs.Inner.Start.{
   longerOf,
   leavesOf,
@@ -8,14 +8,8 @@ ghost use Rattle.controller.specs.Inner.Start.{
   someLeaveOf,
   startNumberOf,
   begunOf,
-  failedOf,
-  dueOf,
-  isDueOf,
-  waitsOf,
   StartFits,
-  WaitFits,
 };
-use crate::state;
 use crate::state::Counters;
 use crate::state::Flags;
 use crate::state::Hot;
@@ -167,89 +161,4 @@ pub(crate) fn begun(next: Plan, polarity: u32, switch: u8, hot: Hot, master: u8)
         watch: hot.watch,
         flags,
     }
-}
-
-// Hot after the dwell, with the number of a waiting start that failed, or 0.
-pub struct Waited {
-    pub hot: Hot,
-    pub number: u8,
-}
-
-// A waiting start that failed is dropped; 14 sets bit 2.
-fn failed(was: Hot, number: u8) -> Hot
-    ensures { λ r. ⌜ r ≡ failedOf was number ⌝ }
-{
-    let told = was.flags;
-    let flags = Flags {
-        wrong: state::either(told.wrong, number == 14),
-        stopped: told.stopped,
-        emergency: told.emergency,
-        sensed: told.sensed,
-    };
-    let pause = Pause {
-        left: 0,
-        waiting: 0,
-    };
-    let mut next = was;
-    next.flags = flags;
-    next.pause = pause;
-    next
-}
-
-// The dwell has come to its end, and a waiting start is tried.
-fn due(settings: Settings, next: Plan, switch: u8, hot: Hot, master: u8) -> Waited
-    requires { ⌜ (master < 5) × StartFits next (hot .counters) ⌝ }
-    ensures { λ r. ⌜ r ≡ dueOf settings next switch hot master ⌝ }
-{
-    let was = hot;
-    let number = start_number(settings, next, was, master);
-    let mut after = hot;
-    if number == 0 {
-        let started = begun(next, settings.polarity, switch, hot, master);
-        after = started;
-    } else {
-        let dropped = failed(hot, number);
-        after = dropped;
-    }
-    Waited { hot: after, number }
-}
-
-// One tick of the dwell less.
-fn lessened(left: u32) -> u32
-    ensures { λ r. ⌜ r ≡ left - 1 ⌝ }
-{
-    if left == 0 {
-        return 0;
-    }
-    left - 1
-}
-
-fn is_due(left: u32, waiting: u32) -> bool
-    ensures { λ r. ⌜ r ≡ isDueOf left waiting ⌝ }
-{
-    if left == 1 {
-        return 0 < waiting;
-    }
-    false
-}
-
-// Count the dwell down and, when it becomes 0, try a waiting start. The two ways write to one variable: a copy each
-// would keep the whole state in memory in every tick.
-pub(crate) fn waits(settings: Settings, next: Plan, switch: u8, hot: Hot) -> Waited
-    requires { ⌜ WaitFits next hot ⌝ }
-    ensures { λ r. ⌜ r ≡ waitsOf settings next switch hot ⌝ }
-{
-    let mut after = hot;
-    let mut number = 0;
-    if is_due(hot.pause.left, hot.pause.waiting) {
-        let was = hot;
-        let waited = due(settings, next, switch, was, (hot.pause.waiting - 1) as u8);
-        let tried = waited.hot;
-        after = tried;
-        number = waited.number;
-    } else {
-        let left = lessened(hot.pause.left);
-        after.pause.left = left;
-    }
-    Waited { hot: after, number }
 }

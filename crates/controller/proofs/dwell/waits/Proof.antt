@@ -7,8 +7,8 @@ use lib.Dec.{eqb, ltb}
 use Rattle.laws.proofs.Pick.{on-true, on-false}
 use Rattle.laws.proofs.Tests.{both}
 use Rattle.controller.specs.Inner.Parts.{withPause}
-use Rattle.controller.proofs.start.waits.Statement.{statement}
-use Rattle.controller.proofs.start.waits.Tie as tie
+use Rattle.controller.proofs.dwell.waits.Statement.{statement}
+use Rattle.controller.proofs.dwell.waits.Tie as tie
 
 is-due-requires : tie.Need-is-due-requires
 is-due-requires c κs = search needs

@@ -1,7 +1,7 @@
 -- `is_due` meets its contract: each return, by the tests and the answers that led there. Assumes nothing.
 use borrow.Author.Tests.{eq-eqb, ne-eqb}
-use Rattle.controller.proofs.start.is_due.Statement.{statement}
-use Rattle.controller.proofs.start.is_due.Tie as tie
+use Rattle.controller.proofs.dwell.is_due.Statement.{statement}
+use Rattle.controller.proofs.dwell.is_due.Tie as tie
 
 returns : tie.Need-returns
 returns c = rw (eq-eqb _ _ (c .if1 .taken))

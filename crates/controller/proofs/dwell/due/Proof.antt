@@ -3,9 +3,10 @@ use borrow.Author.Needs.{needs}
 use Prim.Native.Nat.{ℕ}
 use mathlib.Core.Path.{ap, _∙_}
 use Rattle.laws.proofs.Pick.{on-eq, on-ne}
-use Rattle.controller.specs.Inner.Start.{begunOf, failedOf, dueGiven}
-use Rattle.controller.proofs.start.due.Statement.{statement}
-use Rattle.controller.proofs.start.due.Tie as tie
+use Rattle.controller.specs.Inner.Start.{begunOf}
+use Rattle.controller.specs.Inner.Dwell.{failedOf, dueGiven}
+use Rattle.controller.proofs.dwell.due.Statement.{statement}
+use Rattle.controller.proofs.dwell.due.Tie as tie
 
 start-number-requires : tie.Need-start-number-requires
 start-number-requires c κs = search needs

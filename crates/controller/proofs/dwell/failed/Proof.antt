@@ -1,8 +1,8 @@
 -- `failed` meets its contract: each return, by the tests and the answers that led there. Assumes nothing.
 use borrow.Author.Needs.{needs}
-use Rattle.controller.specs.Inner.Start.{failedGiven}
-use Rattle.controller.proofs.start.failed.Statement.{statement}
-use Rattle.controller.proofs.start.failed.Tie as tie
+use Rattle.controller.specs.Inner.Dwell.{failedGiven}
+use Rattle.controller.proofs.dwell.failed.Statement.{statement}
+use Rattle.controller.proofs.dwell.failed.Tie as tie
 
 either-requires : tie.Need-either-requires
 either-requires c κs = search needs
