@@ -36,17 +36,15 @@ use Rattle.controller.specs.Inner.Parts.{withFlag, withHot, withNext, bl
 use Rattle.controller.specs.Inner.Start.{begunOf, startNumberOf}
 use Rattle.controller.specs.Inner.Settings.{setSettingOf}
 use Rattle.controller.specs.Inner.Orders.{
-  numberOf,
   obeyStartOf,
   obeyStopOf,
   obeyOrderOf,
   doesOf,
-  turnedOf,
-  turnedGiven,
   obeyStopMoving,
   obeyStopDropped,
   obeyStartStored,
 }
+use Rattle.controller.specs.Inner.Numbers.{numberOf, turnedOf, turnedGiven}
 use Rattle.controller.specs.Inner.Status.{statusGiven, statusOf, readingsOf}
 use Rattle.controller.proofs.TickLaws.{each-at}
 use Rattle.controller.proofs.StartLaws.{start-is, begun-is}

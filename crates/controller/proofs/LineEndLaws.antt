@@ -16,7 +16,8 @@ use Rattle.reply.specs.Reply.{toldBy, replyOf, refusalOf}
 use Rattle.reply.proofs.Replies.{reply-over, reply-length, refusal-over, refusal-length}
 use Rattle.controller.specs.declared.state.Controller.{Controller}
 use Rattle.controller.specs.declared.state.ByteAnswer.{ByteAnswer}
-use Rattle.controller.specs.Inner.Orders.{numberOf, doesOf, zeroWatchOf, turnedOf}
+use Rattle.controller.specs.Inner.Orders.{doesOf, zeroWatchOf}
+use Rattle.controller.specs.Inner.Numbers.{numberOf, turnedOf}
 use Rattle.controller.specs.Inner.Status.{readingsOf}
 use Rattle.controller.specs.Inner.LineEnd.{refusalTo, refusedOf, replyTo, obeyedOf, linedOf, lineReply}
 

@@ -9,6 +9,7 @@ pub mod Watch
 pub mod Start
 pub mod Dwell
 pub mod Settings
+pub mod Numbers
 pub mod Orders
 pub mod Status
 pub mod LineEnd

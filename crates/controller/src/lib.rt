@@ -30,6 +30,7 @@ use reply::Travel;
 mod dwell;
 mod line_end;
 mod motion;
+mod numbers;
 mod orders;
 mod power;
 mod ramp;

@@ -13,6 +13,7 @@ ghost use Rattle.controller.specs.Inner.LineEnd.{
   linedOf,
   lineReply,
 };
+use crate::numbers;
 use crate::orders;
 use crate::state::ByteAnswer;
 use crate::state::Controller;
@@ -27,7 +28,7 @@ fn refuse(c: Controller, buf: &mut [u8], silent: bool, ident: Ident, number: u8)
     ensures { λ r. ⌜ r ≡ refusedOf c silent ident number ⌝ }
     ensures { λ r. ⌜ now (buf .exit) ≡ over (refusalTo c silent ident number) (now (buf .entry)) ⌝ }
 {
-    let controller = orders::turned(c, number);
+    let controller = numbers::turned(c, number);
     let mut length = 0;
     if !silent {
         length = reply::write_refusal(buf, c.cold.switch, number, ident);
@@ -105,7 +106,7 @@ pub(crate) fn lined(
             answer = refused;
         }
         Judged::Accepted { command, digits } => {
-            let number = orders::number(c, command);
+            let number = numbers::number(c, command);
             if number == 0 {
                 let obeyed = obey(c, buf, silent, ident, command, digits);
                 answer = obeyed;

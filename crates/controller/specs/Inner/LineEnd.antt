@@ -11,7 +11,8 @@ use Rattle.line.specs.declared.Judged.the-variants.{Accepted, Refused}
 use Rattle.reply.specs.Reply.{toldBy, replyOf, refusalOf}
 use Rattle.controller.specs.declared.state.Controller.{Controller}
 use Rattle.controller.specs.declared.state.ByteAnswer.{ByteAnswer}
-use Rattle.controller.specs.Inner.Orders.{numberOf, doesOf, zeroWatchOf, turnedOf}
+use Rattle.controller.specs.Inner.Orders.{doesOf, zeroWatchOf}
+use Rattle.controller.specs.Inner.Numbers.{numberOf, turnedOf}
 use Rattle.controller.specs.Inner.Status.{readingsOf}
 
 -- The reply to a line turned away.

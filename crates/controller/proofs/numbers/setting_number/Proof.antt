@@ -1,8 +1,8 @@
 -- The number by whether the code is one of 9 to C. Assumes nothing.
 use borrow.Author.Needs.{needs}
 use Rattle.laws.proofs.Pick.{picks, tolds}
-use Rattle.controller.proofs.orders.setting_number.Statement.{statement}
-use Rattle.controller.proofs.orders.setting_number.Tie as tie
+use Rattle.controller.proofs.numbers.setting_number.Statement.{statement}
+use Rattle.controller.proofs.numbers.setting_number.Tie as tie
 
 within-requires : tie.Need-within-requires
 within-requires c κs = search needs

@@ -2,8 +2,8 @@
 use borrow.Author.Needs.{needs}
 use mathlib.Core.Path.{refl, sym, _∙_}
 use Rattle.laws.proofs.Pick.{on-true, on-false}
-use Rattle.controller.proofs.orders.start_line.Statement.{statement}
-use Rattle.controller.proofs.orders.start_line.Tie as tie
+use Rattle.controller.proofs.numbers.start_line.Statement.{statement}
+use Rattle.controller.proofs.numbers.start_line.Tie as tie
 
 returns : tie.Need-returns
 returns c = search needs

@@ -3,9 +3,9 @@ use borrow.Author.Needs.{needs}
 use mathlib.Core.Path.{refl}
 use Rattle.laws.proofs.Pick.{on-lt, on-ge}
 use Rattle.controller.specs.Inner.Parts.{withHot}
-use Rattle.controller.specs.Inner.Orders.{turnedGiven}
-use Rattle.controller.proofs.orders.turned.Statement.{statement}
-use Rattle.controller.proofs.orders.turned.Tie as tie
+use Rattle.controller.specs.Inner.Numbers.{turnedGiven}
+use Rattle.controller.proofs.numbers.turned.Statement.{statement}
+use Rattle.controller.proofs.numbers.turned.Tie as tie
 
 returns : tie.Need-returns
 returns c = on-lt _ _ _ _ _ (c .if1 .taken) refl

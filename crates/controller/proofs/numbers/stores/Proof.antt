@@ -1,7 +1,7 @@
 -- `stores` meets its contract: each return, by the tests and the answers that led there. Assumes nothing.
 use borrow.Author.Needs.{needs}
-use Rattle.controller.proofs.orders.stores.Statement.{statement}
-use Rattle.controller.proofs.orders.stores.Tie as tie
+use Rattle.controller.proofs.numbers.stores.Statement.{statement}
+use Rattle.controller.proofs.numbers.stores.Tie as tie
 
 returns : tie.Need-returns
 returns c = rw (c .before .if1 .taken)

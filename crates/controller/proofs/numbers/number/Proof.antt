@@ -3,9 +3,9 @@ use borrow.Author.Needs.{needs}
 use mathlib.Core.Path.{sym, ap, subst, _∙_}
 use Rattle.line.specs.Fits.{CommandFits}
 use Rattle.line.proofs.Ranges.{axis}
-use Rattle.controller.specs.Inner.Orders.{numberOf}
-use Rattle.controller.proofs.orders.number.Statement.{statement}
-use Rattle.controller.proofs.orders.number.Tie as tie
+use Rattle.controller.specs.Inner.Numbers.{numberOf}
+use Rattle.controller.proofs.numbers.number.Statement.{statement}
+use Rattle.controller.proofs.numbers.number.Tie as tie
 
 enum-told : tie.Need-enum-told
 enum-told c = search needs
