@@ -9,7 +9,9 @@ pub mod PulseLaws
 mod NeedLaws
 pub mod StageLaws
 pub mod ByteLaws
-pub mod EntryLaws
+pub mod EntryPowerLaws
+pub mod EntryTickLaws
+pub mod EntryByteLaws
 pub mod ReachLaws
 pub mod GatherLaws
 pub mod AnswerLaws

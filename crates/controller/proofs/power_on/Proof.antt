@@ -12,7 +12,7 @@ use Rattle.controller.specs.declared.state.PowerOn.{PowerOn}
 use Rattle.controller.specs.Held.{heldPower}
 use Rattle.controller.specs.Reach.{Reachable}
 use Rattle.controller.specs.Answers.{Demand3Answers}
-use Rattle.controller.proofs.EntryLaws.{power-bad, power-good}
+use Rattle.controller.proofs.EntryPowerLaws.{power-bad, power-good}
 use Rattle.controller.proofs.ReachLaws.{reach-power}
 use Rattle.controller.proofs.AnswerLaws.{demand-3-answers}
 use Rattle.controller.proofs.power_on.Statement.{statement}

@@ -5,7 +5,7 @@ use denote.Ref.{now}
 use Rattle.machine.specs.Calls.{state}
 use Rattle.machine.proofs.FitLaws.{fits}
 use Rattle.controller.specs.declared.state.Controller.{Controller}
-use Rattle.controller.proofs.EntryLaws.{
+use Rattle.controller.proofs.EntryByteLaws.{
   byte-short,
   byte-judged,
   heard-start,

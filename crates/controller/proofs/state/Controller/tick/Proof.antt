@@ -2,7 +2,7 @@
 use borrow.Author.Needs.{needs}
 use Rattle.machine.specs.Calls.{state}
 use Rattle.machine.proofs.FitLaws.{fits}
-use Rattle.controller.proofs.EntryLaws.{
+use Rattle.controller.proofs.EntryTickLaws.{
   took,
   take-fits,
   waited-is,

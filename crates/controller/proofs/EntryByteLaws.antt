@@ -1,4 +1,4 @@
--- The public entries, joined from what their parts answer: the held machine's step. Assumes nothing.
+-- A received byte, joined from what its parts answer: the held machine's step. Assumes nothing.
 use Prim.Native.Nat.{ℕ, _≤_, _<_}
 use mathlib.Core.Bool.{Bool, true, false, cond}
 use mathlib.Core.List.{List, []}
@@ -6,9 +6,7 @@ use mathlib.Core.Path.{_≡_, refl, sym, ap, subst, _∙_}
 use native.Mathlib.Omega.{arith}
 use borrow.Author.Tests.{lt-ltb, le-ltb}
 use lib.Dec.{eqb}
-use lib.IntN.{pos}
 use lib.ListN.{length}
-use Rattle.laws.specs.Axes.{each}
 use Rattle.laws.proofs.Pick.{by-bool}
 use Rattle.digits.specs.declared.Ident.{Ident}
 use Rattle.block.specs.Block.{over}
@@ -17,7 +15,6 @@ use Rattle.line.specs.declared.Judged.{Judged}
 use Rattle.line.specs.declared.Judged.the-variants.{Accepted, Refused}
 use Rattle.line.specs.Fits.{JudgedFits}
 use Rattle.line.proofs.Fits.{judge-fits}
-use Rattle.outputs.specs.Outputs.{restOf, fireOf}
 use Rattle.reply.specs.Reply.{toldBy, replyOf}
 use Rattle.receiver.specs.declared.Taken.{Taken}
 use Rattle.receiver.specs.declared.Heard.{Heard}
@@ -35,156 +32,21 @@ use Rattle.machine.specs.Steps.{
   heardBy,
   byteStep,
   bufferAfter,
-  powerOn,
-  tickStep,
-  refusedTick,
-  ticked,
-  tries,
-  looks,
-  failure,
 }
-use Rattle.machine.specs.Steps as steps
-use Rattle.machine.specs.Stops.{takes, stops}
-use Rattle.machine.specs.Ramp.{runs}
 use Rattle.machine.specs.Commands.{number}
 use Rattle.machine.specs.Replies as machine
 use Rattle.machine.proofs.UnalteredLaws.{number-line}
 use Rattle.machine.proofs.FitLaws.{Fits}
 use Rattle.controller.specs.declared.state.Controller.{Controller}
-use Rattle.controller.specs.declared.state.PowerOn.{PowerOn}
 use Rattle.controller.specs.declared.state.ByteAnswer.{ByteAnswer}
-use Rattle.controller.specs.declared.state.TickAnswer.{TickAnswer}
-use Rattle.controller.specs.declared.state.Hot.{Hot}
-use Rattle.controller.specs.declared.motion.Ran.{Ran}
-use Rattle.controller.specs.declared.dwell.Waited.{Waited}
-use Rattle.controller.specs.Held.{held, heldHot, heldCold, heldPlan, heldPower, heldByte, heldTick}
-use Rattle.controller.specs.Inner.Words as words
-use Rattle.controller.specs.Inner.Motion.{runsOf, heldRan, RunFits}
-use Rattle.controller.specs.Inner.Words.{WiresFit}
-use Rattle.controller.specs.Inner.Watch.{takesOf, stopsOf}
+use Rattle.controller.specs.Held.{held, heldByte}
 use Rattle.controller.specs.Inner.Start.{StartFits}
-use Rattle.controller.specs.Inner.Dwell.{waitsOf, WaitFits}
 use Rattle.controller.specs.Inner.Orders.{zeroWatchOf}
 use Rattle.controller.specs.Inner.Status.{readingsOf}
 use Rattle.controller.specs.Inner.LineEnd.{refusedOf, refusalTo, obeyedOf, replyTo, linedOf, lineReply}
-use Rattle.controller.specs.Inner.Power.{badOf, freshOf, lineWith}
-use Rattle.controller.proofs.TickLaws.{takes-is, wires-fit}
+use Rattle.controller.specs.Inner.Power.{lineWith}
 use Rattle.controller.proofs.StartLaws.{start-fits}
-use Rattle.controller.proofs.StageLaws.{looks-is, stopped-is, ran-is, looks-fit, ran-fits, ticked-is}
 use Rattle.controller.proofs.ByteLaws.{does-is, turned-is, number-is, reply-is}
-
--- ---- Power-on
-
--- What power-on makes of a switch, by whether there is such a switch.
-abbrev powered : ℕ → Bool → PowerOn
-powered s b = record {
-  controller = held (record {
-    switch = cond b 0 s;
-    settings = powerOn s .settings;
-    next = powerOn s .next;
-    move = powerOn s .move;
-    position = powerOn s .position;
-    inputs = 0;
-    outputs = 0;
-    watch = 0;
-    flags = powerOn s .flags;
-    pause = powerOn s .pause;
-    line = [];
-  });
-  number = cond b 1 0;
-}
-
-pub power-bad : (s : ℕ) (c : Controller) → badOf s ≡ true → c ≡ freshOf 0
-    → _≡_ {A = PowerOn} (record { controller = c; number = 1 }) (heldPower s)
-unfolding restOf fireOf
-power-bad s c e p = (λ i. record { controller = p i; number = 1 }) ∙ ap (powered s) (sym e)
-
-pub power-good : (s : ℕ) (c : Controller) → badOf s ≡ false → c ≡ freshOf s
-    → _≡_ {A = PowerOn} (record { controller = c; number = 0 }) (heldPower s)
-unfolding restOf fireOf
-power-good s c e p = (λ i. record { controller = p i; number = 0 }) ∙ ap (powered s) (sym e)
-
--- ---- A tick
-
-module _ (m : Machine) (w : ℕ) (f : Fits m) (self : Controller) (e : held m ≡ self) where
-  pub took : (taken : Hot) → taken ≡ takesOf (self .cold .settings) (self .hot) w → taken ≡ heldHot (takes m w)
-  took taken q = q ∙ ((λ i. takesOf (sym e i .cold .settings) (sym e i .hot) w) ∙ takes-is m w)
-
-  pub take-fits : (taken : Hot) → taken ≡ heldHot (takes m w) → WaitFits (self .cold .next) taken
-  take-fits taken q =
-      subst (λ (c : Controller). WaitFits (c .cold .next) taken) e
-      (subst (WaitFits (heldPlan (m .next))) (sym q) (looks-fit m w f))
-
-  pub waited-is : (taken : Hot) (waited : Waited) → taken ≡ heldHot (takes m w)
-      → waited ≡ waitsOf (self .cold .settings) (self .cold .next) (self .cold .switch) taken
-      → waited ≡ record { hot = heldHot (looks m w); number = failure (tries (takes m w)) }
-  waited-is taken waited p q =
-      q ∙ ((λ i. waitsOf (sym e i .cold .settings) (sym e i .cold .next) (sym e i .cold .switch) (p i)) ∙ looks-is m w
-      f)
-
-  pub stop-is : (waited : Waited) (stopped : Hot)
-      → waited ≡ record { hot = heldHot (looks m w); number = failure (tries (takes m w)) }
-      → stopped ≡ stopsOf (self .cold .settings) (waited .hot) → stopped ≡ heldHot (stops (looks m w))
-  stop-is waited stopped p q =
-      q ∙ ((λ i. stopsOf (sym e i .cold .settings) (p i .hot)) ∙ stopped-is m w f)
-
-  pub stop-fits : (stopped : Hot) → stopped ≡ heldHot (stops (looks m w)) → RunFits (self .cold .settings) stopped
-  stop-fits stopped q =
-      subst (λ (c : Controller). RunFits (c .cold .settings) stopped) e
-      (subst (RunFits (heldCold m .settings)) (sym q) (ran-fits m w f))
-
-  pub run-was : (stopped : Hot) (ran : Ran) → stopped ≡ heldHot (stops (looks m w))
-      → ran ≡ runsOf (self .cold .settings) stopped → ran ≡ heldRan (runs (stops (looks m w)))
-  run-was stopped ran p q =
-      q ∙ ((λ i. runsOf (sym e i .cold .settings) (p i)) ∙ ran-is m w f)
-
-  pub run-wires : (ran : Ran) → ran ≡ heldRan (runs (stops (looks m w))) → WiresFit (ran .hot .wires)
-  run-wires ran q = subst (λ (r : Ran). WiresFit (r .hot .wires)) (sym q)
-      (wires-fit (runs (stops (looks m w)) .machine))
-
-  pub tick-is : (waited : Waited) (ran : Ran) (second : ℕ) → w ≤ 16777215
-      → waited ≡ record { hot = heldHot (looks m w); number = failure (tries (takes m w)) }
-      → ran ≡ heldRan (runs (stops (looks m w))) → second ≡ words.restOf (ran .hot .wires)
-      → _≡_ {A = TickAnswer} (record {
-        controller = record { hot = ran .hot; cold = self .cold };
-        first = ran .first;
-        second = second;
-        pulses = ran .pulses;
-        number = waited .number;
-      })
-      (heldTick (tickStep m w))
-  tick-is waited ran second h p q r =
-      _∙_ {b = heldTick (ticked (runs (stops (looks m w))) (failure (tries (takes m w))))}
-      (_∙_ {b = record {
-        controller = record { hot = heldRan (runs (stops (looks m w))) .hot; cold = heldCold m };
-        first = heldRan (runs (stops (looks m w))) .first;
-        second = words.restOf (heldRan (runs (stops (looks m w))) .hot .wires);
-        pulses = heldRan (runs (stops (looks m w))) .pulses;
-        number = failure (tries (takes m w));
-      }}
-      (λ i. record {
-        controller = record { hot = q i .hot; cold = sym e i .cold };
-        first = q i .first;
-        second = (r ∙ ap (λ (x : Ran). words.restOf (x .hot .wires)) q) i;
-        pulses = q i .pulses;
-        number = p i .number;
-      })
-      (ticked-is m w f))
-      (ap (λ (b : Bool). heldTick (cond b (refusedTick m)
-      (ticked (runs (stops (looks m w))) (failure (tries (takes m w))))))
-      (sym (le-ltb 16777215 w h)))
-
-  pub tick-refused : 16777215 < w
-      → _≡_ {A = TickAnswer} (record
-      { controller = self; first = 0; second = 0; pulses = each (λ k. pos 0); number = 3 })
-      (heldTick (tickStep m w))
-  tick-refused h =
-      (λ i. record { controller = sym e i; first = 0; second = 0; pulses = each (λ (k : ℕ). pos 0); number = 3 })
-      ∙ ap (λ (b : Bool). heldTick (cond b (refusedTick m)
-      (ticked (runs (stops (looks m w))) (failure (tries (takes m w))))))
-      (sym (lt-ltb 16777215 w h))
-
--- ---- A byte
 
 -- Whatever is heard is in range.
 HeardFits : Heard → Type 0
