@@ -12,7 +12,7 @@ use Rattle.machine.specs.State.{Move, Machine, withMove}
 use Rattle.machine.specs.Shares.{whole, gone, share, pulse}
 use Rattle.machine.specs.Ramp.{full, ramped, atSpeed, ended, quiet, stepped, runs}
 use Rattle.machine.specs.Outputs.{word}
-use Rattle.machine.proofs.RunLaws.{master-to, step-pulse}
+use Rattle.machine.proofs.PulseLaws.{master-to, step-pulse}
 use Rattle.machine.proofs.FitLaws.{Fits}
 use Rattle.controller.specs.declared.state.Hot.{Hot}
 use Rattle.controller.specs.declared.motion.Axis.{Axis}

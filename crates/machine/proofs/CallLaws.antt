@@ -13,7 +13,8 @@ use Rattle.machine.specs.Steps.{Tried, untried, tries, runsOut, looks, t
 use Rattle.machine.specs.Calls.{Call, byte, tick, after}
 use Rattle.machine.specs.Roles.{other, lineOf, named, takesEffect, stopsIn, sent, isTick, begins, atStart}
 use Rattle.machine.specs.List.{isPulse}
-use Rattle.machine.proofs.RunLaws.{Good, Runs, runs-is, no-pulse}
+use Rattle.machine.proofs.Runs.{Good, Runs, no-pulse}
+use Rattle.machine.proofs.RunLaws.{runs-is}
 use Rattle.machine.proofs.CalledLaws.{Called, called-same}
 use Rattle.machine.proofs.LineLaws.{called-byte}
 use Rattle.machine.proofs.LookLaws.{

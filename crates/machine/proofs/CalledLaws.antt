@@ -12,7 +12,7 @@ use Rattle.machine.specs.Shares.{whole}
 use Rattle.machine.specs.Steps.{Tried, untried}
 use Rattle.machine.specs.Roles.{Role, other, resetBy, distanceBy, minusBy, begins, atStart}
 use Rattle.machine.specs.List.{isPulse}
-use Rattle.machine.proofs.RunLaws.{Good, Whole, no-pulse}
+use Rattle.machine.proofs.Runs.{Good, Whole, no-pulse}
 
 -- A call on m that is to the list the line L, the start S and the stop P (t: it is a tick), answers z and leaves a.
 pub record Called (m : Machine) (L : Role) (S : Tried) (P t : Bool) (z : ℕ → ℤ) (a : Machine) : Type 0 where

@@ -29,7 +29,8 @@ use Rattle.machine.specs.Demand.{ShareLaw, Answer, Ended, Demand3}
 use Rattle.machine.proofs.BitLaws.{status-moving}
 use Rattle.machine.proofs.ShareLaws.{Share}
 use Rattle.machine.proofs.FitLaws.{fits}
-use Rattle.machine.proofs.ListLaws.{Told, called-on, whole-end, told}
+use Rattle.machine.proofs.Told.{Told, called-on}
+use Rattle.machine.proofs.ListLaws.{whole-end, told}
 
 module _ (s : ℕ) (h : List Call) (t : Told s h) where
   same-whole : shares.whole (state s h .move) ≡ whole s h

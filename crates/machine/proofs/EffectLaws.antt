@@ -22,7 +22,7 @@ use Rattle.machine.specs.Roles.{
   distanceBy,
   minusBy,
 }
-use Rattle.machine.proofs.RunLaws.{Good, no-pulse}
+use Rattle.machine.proofs.Runs.{Good, no-pulse}
 use Rattle.machine.proofs.CalledLaws.{Called, Same, and-self, called-line, kept}
 use Rattle.machine.proofs.ReadyLaws.{Ready, good-new}
 

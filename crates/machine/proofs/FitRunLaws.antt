@@ -28,7 +28,8 @@ use Rattle.machine.specs.Ramp.{
 }
 use Rattle.machine.specs.Starts.{outside}
 use Rattle.machine.proofs.ShareLaws.{share-grows, share-once}
-use Rattle.machine.proofs.RunLaws.{Good, step-pulse, runs-step, runs-end}
+use Rattle.machine.proofs.Runs.{Good}
+use Rattle.machine.proofs.PulseLaws.{step-pulse, runs-step, runs-end}
 use Rattle.machine.proofs.PositionLaws.{Room, place-step}
 use Rattle.machine.proofs.Fits.{SettingsFit, MoveFits, Fits}
 

@@ -11,7 +11,7 @@ use Rattle.machine.specs.State.{Move, Machine, Waiting, none, start}
 use Rattle.machine.specs.Stops.{takes, cause, stops, stopping}
 use Rattle.machine.specs.Starts.{startNumber, begun}
 use Rattle.machine.specs.Steps.{Tried, failed, began, tryStart, tryWaiting, tries, waits, looks}
-use Rattle.machine.proofs.RunLaws.{Good}
+use Rattle.machine.proofs.Runs.{Good}
 use Rattle.machine.proofs.PositionLaws.{Room, leaves-is, room-of}
 use Rattle.machine.proofs.ReadyLaws.{Ready, ready, good-new}
 use Rattle.machine.proofs.Fits.{SettingsFit, PlanFits, WaitingFits, PauseFits, MoveFits, PlacesFit, Fits}

@@ -8,7 +8,7 @@ use Rattle.reply.specs.Reply.{bias}
 use Rattle.machine.specs.State.{Settings, Plan, Move, Machine, Waiting, none, start, Pause}
 use Rattle.machine.specs.Ramp.{full}
 use Rattle.machine.specs.Starts.{outside}
-use Rattle.machine.proofs.RunLaws.{Good}
+use Rattle.machine.proofs.Runs.{Good}
 use Rattle.machine.proofs.PositionLaws.{Room}
 
 pub record SettingsFit (s : Settings) : Type 0 where

@@ -1,6 +1,8 @@
 pub mod BitLaws
 pub mod UnalteredLaws
 pub mod ShareLaws
+pub mod Runs
+pub mod PulseLaws
 pub mod RunLaws
 pub mod PositionLaws
 pub mod CalledLaws
@@ -17,6 +19,7 @@ pub mod FitStageLaws
 pub mod FitRunLaws
 pub mod FitLineLaws
 pub mod FitLaws
+pub mod Told
 pub mod ListLaws
 pub mod DemandLaws
 pub mod MarkedLaws

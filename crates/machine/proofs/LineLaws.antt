@@ -26,7 +26,7 @@ use Rattle.machine.specs.Commands.{number, does, stores, drops, keepsSta
 use Rattle.machine.specs.Steps.{Outcome, refused, decided, outcomeOf, outcome, answered, heardBy, untried, began}
 use Rattle.machine.specs.Roles.{other, dwellLine, startLine, stopOrder, roleOf, roleBy, startBy, stopBy}
 use Rattle.machine.proofs.BitLaws.{status-moving}
-use Rattle.machine.proofs.RunLaws.{Good}
+use Rattle.machine.proofs.Runs.{Good}
 use Rattle.machine.proofs.CalledLaws.{Called, called-same}
 use Rattle.machine.proofs.ReadyLaws.{passed, ready}
 use Rattle.machine.proofs.EffectLaws.{called-start, called-quiet, called-distance, called-reset, called-stop}

@@ -6,14 +6,13 @@ use mathlib.Core.Path.{_≡_, refl, sym, ap, subst, _∙_}
 use native.Mathlib.Omega.{arith}
 use lib.IntN.{ℤ, pos, _+ℤ_}
 use Rattle.laws.proofs.Tests.{true-false, both, neither}
-use Rattle.machine.specs.State.{Machine, Pause}
+use Rattle.machine.specs.State.{Machine}
 use Rattle.machine.specs.Shares as shares
 use Rattle.machine.specs.Steps.{Tried, untried, failed, began}
 use Rattle.machine.specs.Calls.{Call, after, run, state}
 use Rattle.machine.specs.Roles.{
   Role,
   lineOf,
-  takesEffect,
   stopsIn,
   resetBy,
   distanceBy,
@@ -43,41 +42,9 @@ use Rattle.machine.specs.List.{
 }
 use Rattle.machine.proofs.BitLaws.{status-moving}
 use Rattle.machine.proofs.ShareLaws.{share-none}
-use Rattle.machine.proofs.RunLaws.{Good, Whole}
-use Rattle.machine.proofs.CalledLaws.{Called}
-use Rattle.machine.proofs.CallLaws.{called}
+use Rattle.machine.proofs.Runs.{Whole}
+use Rattle.machine.proofs.Told.{Told, Calls, called-on}
 use Rattle.machine.proofs.PauseLaws.{pause-next, dwell-next}
-
--- What a list leaves, against what is read off it.
-pub record Told (s : ℕ) (h : List Call) : Type 0 where
-  pub good : Good (state s h .move)
-  pub pause : state s h .pause ≡ paused s h
-  pub dwell : state s h .settings .dwell ≡ lastDwell s h
-  pub nextDistance : (k : ℕ) → state s h .next .distance k ≡ lastDistance s h k
-  pub nextMinus : (k : ℕ) → state s h .next .minus k ≡ lastMinus s h k
-  pub distances : (k : ℕ) → state s h .move .plan .distance k ≡ distance s h k
-  pub minuses : (k : ℕ) → state s h .move .plan .minus k ≡ minus s h k
-  pub masters : state s h .move .master ≡ master s h
-  pub counts : (k : ℕ) → k < 5 → state s h .move .travel k ≡ counted s h k
-  pub sums : (k : ℕ) → state s h .position k ≡ signed s h k
-  pub goes : state s h .move .moving ≡ goesOn s h
-  pub stops : state s h .move .moving ≡ true → state s h .move .stopping ≡ stopBegun s h
-  pub positive : started s h ≡ true → 0 < shares.whole (state s h .move)
-  pub rest : started s h ≡ true → state s h .move .moving ≡ false → stopBegun s h ≡ false
-      → (k : ℕ) → k < 5 → state s h .move .travel k ≡ state s h .move .plan .distance k
-
--- What a call does after the list, the start that it tries being the one that the list stored.
-abbrev Calls : ℕ → List Call → Call → Type 0
-Calls s h x =
-    Called (state s h) (lineOf (state s h) x) (effect s h x) (stopsIn (state s h) x) (isTick x) (sent (state s h) x)
-    (after (state s h) x)
-
-pub called-on : (s : ℕ) (h : List Call) (x : Call) → Told s h → Calls s h x
-called-on s h x t =
-    subst
-    (λ (p : Pause). Called (state s h) (lineOf (state s h) x) (takesEffect (state s h) p x) (stopsIn (state s h) x)
-    (isTick x) (sent (state s h) x) (after (state s h) x))
-    (t .pause) (called (state s h) x (t .good))
 
 told-none : (s : ℕ) → Told s []
 unfolding run lastDwell paused lastDistance lastMinus started distance minus master counted signed stopBegun goesOn

@@ -22,7 +22,7 @@ use Rattle.machine.specs.Steps.{
   failure,
 }
 use Rattle.machine.specs.Roles.{named, begins, atStart}
-use Rattle.machine.proofs.RunLaws.{Good}
+use Rattle.machine.proofs.Runs.{Good}
 use Rattle.machine.proofs.CalledLaws.{Same}
 use Rattle.machine.proofs.ReadyLaws.{ready, good-new}
 

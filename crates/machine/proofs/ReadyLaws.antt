@@ -11,7 +11,7 @@ use Rattle.machine.specs.State.{Machine}
 use Rattle.machine.specs.Stops.{sensorActive, blocked}
 use Rattle.machine.specs.Starts.{startNumber, newMove, outside, final}
 use Rattle.machine.proofs.ShareLaws.{share-none}
-use Rattle.machine.proofs.RunLaws.{Good}
+use Rattle.machine.proofs.Runs.{Good}
 
 pub passed : (t : Bool) (n x : ℕ) → 0 < n → cond t n x ≡ 0 → (t ≡ false) × (x ≡ 0)
 passed true n x h e = absurd (omega (arith, e))
