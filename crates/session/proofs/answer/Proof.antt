@@ -3,7 +3,7 @@ use mathlib.Core.Path.{sym, subst}
 use borrow.Author.Needs.{needs}
 use Rattle.machine.specs.Calls.{state}
 use Rattle.session.specs.Session.{asks, Told}
-use Rattle.session.proofs.SessionLaws.{question-told, ticks-told}
+use Rattle.session.proofs.PartLaws.{question-told, ticks-told}
 use Rattle.session.proofs.answer.Statement.{statement}
 use Rattle.session.proofs.answer.Tie as tie
 

@@ -2,7 +2,7 @@
 use borrow.Author.Needs.{needs}
 use native.Mathlib.Omega.{arith}
 use lib.ListN.{length-set}
-use Rattle.session.proofs.SessionLaws.{question-over}
+use Rattle.session.proofs.PartLaws.{question-over}
 use Rattle.session.proofs.question.Statement.{statement}
 use Rattle.session.proofs.question.Tie as tie
 

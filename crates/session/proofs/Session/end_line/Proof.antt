@@ -3,14 +3,9 @@ use borrow.Author.Needs.{needs}
 use mathlib.Core.Path.{subst}
 use Rattle.machine.specs.Calls.{state}
 use Rattle.session.specs.Session.{Told}
-use Rattle.session.proofs.SessionLaws.{
-  reached,
-  at-controller,
-  asked-ended,
-  start-ended,
-  sending-ended,
-  sent-told,
-}
+use Rattle.session.proofs.PartLaws.{sent-told}
+use Rattle.session.proofs.PlaceLaws.{at-controller, asked-ended, start-ended, sending-ended}
+use Rattle.session.proofs.SessionLaws.{reached}
 use Rattle.session.proofs.Session.end_line.Statement.{statement}
 use Rattle.session.proofs.Session.end_line.Tie as tie
 

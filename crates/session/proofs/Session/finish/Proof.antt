@@ -2,8 +2,7 @@
 use borrow.Author.Needs.{needs}
 use native.Mathlib.Omega.{arith}
 use Rattle.machine.specs.Calls.{state}
-use Rattle.session.proofs.SessionLaws.{
-  finished-told,
+use Rattle.session.proofs.PlaceLaws.{
   rests-told,
   short-told,
   long-told,
@@ -11,6 +10,7 @@ use Rattle.session.proofs.SessionLaws.{
   sending-finished,
   asking-finished,
 }
+use Rattle.session.proofs.SessionLaws.{finished-told}
 use Rattle.session.proofs.Session.finish.Statement.{statement}
 use Rattle.session.proofs.Session.finish.Tie as tie
 

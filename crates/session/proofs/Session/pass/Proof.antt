@@ -3,16 +3,16 @@ use borrow.Author.Needs.{needs}
 use mathlib.Core.Path.{subst}
 use Rattle.machine.specs.Calls.{state}
 use Rattle.session.specs.Session.{Told}
-use Rattle.session.proofs.SessionLaws.{
-  reached,
+use Rattle.session.proofs.PartLaws.{sending-told}
+use Rattle.session.proofs.PlaceLaws.{
   at-controller,
   asking-passed,
   letter-passed,
   start-passed,
   sending-passed,
   keeps-told,
-  sending-told,
 }
+use Rattle.session.proofs.SessionLaws.{reached}
 use Rattle.session.proofs.Session.pass.Statement.{statement}
 use Rattle.session.proofs.Session.pass.Tie as tie
 

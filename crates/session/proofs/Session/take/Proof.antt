@@ -4,7 +4,8 @@ use native.Mathlib.Omega.{arith}
 use Rattle.machine.specs.Calls.{state}
 use Rattle.laws.proofs.Pick.{on-eq, on-ne}
 use mathlib.Core.Path.{refl}
-use Rattle.session.proofs.SessionLaws.{taken-told, short-told, long-told}
+use Rattle.session.proofs.PlaceLaws.{short-told, long-told}
+use Rattle.session.proofs.SessionLaws.{taken-told}
 use Rattle.session.proofs.Session.take.Statement.{statement}
 use Rattle.session.proofs.Session.take.Tie as tie
 

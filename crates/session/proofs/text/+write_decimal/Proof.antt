@@ -5,7 +5,7 @@ use borrow.Fn.PlainCycle.{Measures, is, falls, and}
 use mathlib.Core.Path.{ap}
 use native.Mathlib.Omega.{arith}
 use lib.ListN.{length, length-set}
-use Rattle.session.proofs.TextLaws.{decimal-one, more-length, one-written, more-written}
+use Rattle.session.proofs.DecimalLaws.{decimal-one, more-length, one-written, more-written}
 use Rattle.session.proofs.text.write_decimal.Reads as write-decimal
 use Rattle.session.proofs.text.write_decimal.Kinds as write-decimal-kinds
 use Rattle.session.proofs.text.+write_decimal.Lts-write_decimal as write-decimal-lts

@@ -1,5 +1,5 @@
 -- The sign of a number, read from its bits. Assumes nothing.
-use Rattle.session.proofs.TextLaws.{minus-told}
+use Rattle.session.proofs.SignLaws.{minus-told}
 use Rattle.session.proofs.text.is_minus.Statement.{statement}
 use Rattle.session.proofs.text.is_minus.Tie as tie
 

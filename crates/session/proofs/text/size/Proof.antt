@@ -1,7 +1,7 @@
 -- The size of a number: its opposite is taken in 64 bits, where it fits. Assumes nothing.
 use borrow.Author.Needs.{needs}
 use mathlib.Core.Path.{sym, _∙_}
-use Rattle.session.proofs.TextLaws.{
+use Rattle.session.proofs.SignLaws.{
   cast-fits,
   opposite-fits,
   minus-size,

@@ -10,15 +10,8 @@ use mir.Syntax.{w32}
 use mir.Val.{SFits}
 use Rattle.block.specs.Block.{over}
 use Rattle.session.specs.Text.{sumsText}
-use Rattle.session.proofs.TextLaws.{
-  elem-sfits,
-  minus-passed,
-  size-passed,
-  none-written,
-  next-written,
-  no-room,
-  with-room,
-}
+use Rattle.session.proofs.TextLaws.{none-written, next-written, no-room, with-room}
+use Rattle.session.proofs.SignLaws.{elem-sfits, minus-passed, size-passed}
 use Rattle.session.proofs.text.write_sums.Statement.{statement}
 use Rattle.session.proofs.text.write_sums.Tie as tie
 
