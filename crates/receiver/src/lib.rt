@@ -1,5 +1,6 @@
-// The receiver (paper 01, "Lines"): takes one byte a call and hands the next state back. A line may have any length:
-// its first ten characters tell all that is asked of it. Byte 0D ends the line, all other 255 values are characters.
+// The receiver (paper 01, "Lines"): takes one byte a call, or all bytes before a 0D, and hands the next state back. A
+// line may have any length: its first ten characters tell all that is asked of it. Byte 0D ends the line, all other 255
+// values are characters.
 // Every public function is total: it has no premise and states its result for every input. Assumes nothing.
 ghost use mathlib.Core.Path.{_≡_};
 ghost use mathlib.Core.List.{[]};
