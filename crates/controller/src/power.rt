@@ -1,6 +1,6 @@
 // What power-on makes (paper 01, "Power-on").
 ghost use mathlib.Core.Path.{_≡_};
-ghost use Rattle.controller.specs.Inner.Power.{badOf, freshOf};
+ghost use Rattle.controller.specs.Inner.Power.{badOf, freshSettingsOf, freshRunOf, freshHotOf, freshOf};
 use crate::state::Cold;
 use crate::state::Controller;
 use crate::state::Counters;
@@ -26,10 +26,10 @@ pub(crate) fn is_bad(switch: u8) -> bool
 }
 
 // V 10,000, a 16, all else 0, watch off.
-pub(crate) fn fresh(switch: u8) -> Controller
-    ensures { λ r. ⌜ r ≡ freshOf switch ⌝ }
+fn fresh_settings() -> Settings
+    ensures { λ r. ⌜ r ≡ freshSettingsOf ⌝ }
 {
-    let settings = Settings {
+    Settings {
         speed: 10000,
         slope: 16,
         dwell: 0,
@@ -37,18 +37,14 @@ pub(crate) fn fresh(switch: u8) -> Controller
         low: 0,
         high: 0,
         watch: 0,
-    };
-    let minus = [false; 5];
-    let plan = Plan {
-        distances: [0; 5],
-        minus,
-    };
-    let counters = Counters {
-        travels: [Travel(0); 5],
-        remainders: [0; 5],
-        positions: [Position(524288); 5],
-    };
-    let run = Run {
+    }
+}
+
+// No move runs.
+fn fresh_run() -> Run
+    ensures { λ r. ⌜ r ≡ freshRunOf ⌝ }
+{
+    Run {
         length: 0,
         gone: 0,
         speed: 0,
@@ -56,7 +52,20 @@ pub(crate) fn fresh(switch: u8) -> Controller
         master: 0,
         moving: false,
         stopping: false,
+    }
+}
+
+// What a tick alters, with this plan: travels, positions, dwell and flags are those of no move yet.
+fn fresh_hot(switch: u8, plan: Plan) -> Hot
+    ensures { λ r. ⌜ r ≡ freshHotOf switch plan ⌝ }
+{
+    let counters = Counters {
+        travels: [Travel(0); 5],
+        remainders: [0; 5],
+        positions: [Position(524288); 5],
     };
+    let run = fresh_run();
+    let minus = plan.minus;
     let general = outputs::general(switch, 0);
     let cells = outputs::axis_cells(switch, 0, minus);
     let wires = Wires { general, cells };
@@ -70,7 +79,7 @@ pub(crate) fn fresh(switch: u8) -> Controller
         emergency: false,
         sensed: false,
     };
-    let hot = Hot {
+    Hot {
         plan,
         counters,
         run,
@@ -80,7 +89,20 @@ pub(crate) fn fresh(switch: u8) -> Controller
         outputs: 0,
         watch: 0,
         flags,
+    }
+}
+
+// The controller at power-on: all distances 0, all directions plus.
+pub(crate) fn fresh(switch: u8) -> Controller
+    ensures { λ r. ⌜ r ≡ freshOf switch ⌝ }
+{
+    let minus = [false; 5];
+    let plan = Plan {
+        distances: [0; 5],
+        minus,
     };
+    let settings = fresh_settings();
+    let hot = fresh_hot(switch, plan);
     let line = Receiver::new();
     let cold = Cold {
         settings,

@@ -9,7 +9,10 @@ use Rattle.outputs.specs.Outputs.{generalOf}
 use Rattle.receiver.specs.declared.Receiver.{Receiver}
 use Rattle.receiver.specs.Receiver.{holding}
 use Rattle.controller.specs.declared.state.Controller.{Controller}
+use Rattle.controller.specs.declared.state.Hot.{Hot}
 use Rattle.controller.specs.declared.state.Plan.{Plan}
+use Rattle.controller.specs.declared.state.Run.{Run}
+use Rattle.controller.specs.declared.state.Settings.{Settings}
 use Rattle.controller.specs.Inner.Parts.{runOf, pauseOf, hotOf, controllerOf, cellsOf}
 
 -- There is no such switch.
@@ -20,22 +23,32 @@ badOf switch = ltb 15 switch || eqb switch 12
 abbrev pub freshPlan : Plan
 freshPlan = record { distances = each (λ k. 0); minus = each (λ k. false) }
 
--- By what the general outputs and each axis add to an output word, and the characters received.
-abbrev pub freshGiven : ℕ → ℕ → Cells → Receiver → Controller
-freshGiven switch general cells line =
-    controllerOf
-    (hotOf freshPlan (record {
+-- V 10,000, a 16, all else 0, watch off.
+abbrev pub freshSettingsOf : Settings
+freshSettingsOf = record { speed = 10000; slope = 16; dwell = 0; polarity = 0; low = 0; high = 0; watch = 0 }
+
+-- No move runs.
+abbrev pub freshRunOf : Run
+freshRunOf = runOf 0 0 0 0 0 false false
+
+-- By the run, and what the general outputs and each axis add to an output word.
+abbrev pub freshHotGiven : Plan → Run → ℕ → Cells → Hot
+freshHotGiven plan run general cells =
+    hotOf plan (record {
       travels = each (λ k. record { 0 = 0 });
       remainders = each (λ k. 0);
       positions = each (λ k. record { 0 = 524288 });
     })
-    (runOf 0 0 0 0 0 false false) (record { general = general; cells = cells }) (pauseOf 0 0) 0 0 0
-    (record { wrong = false; stopped = false; emergency = false; sensed = false }))
-    (record { speed = 10000; slope = 16; dwell = 0; polarity = 0; low = 0; high = 0; watch = 0 }) freshPlan line switch
+    run (record { general = general; cells = cells }) (pauseOf 0 0) 0 0 0
+    (record { wrong = false; stopped = false; emergency = false; sensed = false })
 
--- V 10,000, a 16, all else 0, watch off.
+-- What a tick alters, with this plan.
+abbrev pub freshHotOf : ℕ → Plan → Hot
+freshHotOf switch plan = freshHotGiven plan freshRunOf (generalOf switch 0) (cellsOf switch 0 (plan .minus))
+
+-- The controller at power-on.
 abbrev pub freshOf : ℕ → Controller
-freshOf switch = freshGiven switch (generalOf switch 0) (cellsOf switch 0 (each (λ k. false))) (holding [])
+freshOf switch = controllerOf (freshHotOf switch freshPlan) freshSettingsOf freshPlan (holding []) switch
 
 -- The controller with the characters received so far.
 abbrev pub lineWith : Controller → Receiver → Controller

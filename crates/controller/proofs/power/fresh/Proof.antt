@@ -1,14 +1,15 @@
 -- `fresh` meets its contract: each return, by the tests and the answers that led there. Assumes nothing.
 use borrow.Author.Needs.{needs}
-use Rattle.controller.specs.Inner.Power.{freshGiven}
+use Rattle.controller.specs.Inner.Parts.{controllerOf}
+use Rattle.controller.specs.Inner.Power.{freshPlan}
 use Rattle.controller.proofs.power.fresh.Statement.{statement}
 use Rattle.controller.proofs.power.fresh.Tie as tie
 
-general-requires : tie.Need-general-requires
-general-requires c κs = search needs
+fresh-settings-requires : tie.Need-fresh-settings-requires
+fresh-settings-requires c κs = search needs
 
-axis-cells-requires : tie.Need-axis-cells-requires
-axis-cells-requires c κs = search needs
+fresh-hot-requires : tie.Need-fresh-hot-requires
+fresh-hot-requires c κs = search needs
 
 new-requires : tie.Need-new-requires
 new-requires c κs = search needs
@@ -16,9 +17,8 @@ new-requires c κs = search needs
 returns : tie.Need-returns
 returns c =
     let s = c .before .before .before .args .switch in
-    let w = c .before .axis-cells in
-    λ i. freshGiven s (c .before .before .general .ensures i)
-    (record { rests = w .ensures .0 i; fires = w .ensures .1 .0 i; still = w .ensures .1 .1 i }) (c .new .ensures i)
+    λ i. controllerOf (c .before .fresh-hot .ensures i) (c .before .before .fresh-settings .ensures i) freshPlan
+    (c .new .ensures i) s
 
 pub fresh-spec : {M : Type 1} → statement M
-fresh-spec = tie.close (tie.spec general-requires axis-cells-requires new-requires returns)
+fresh-spec = tie.close (tie.spec fresh-settings-requires fresh-hot-requires new-requires returns)
