@@ -10,8 +10,8 @@ use lib.ListN.{length, length-append, take, drop, length-drop}
 use lib.Seq.{length-take-le, take-all}
 use Rattle.block.specs.Block.{over}
 use Rattle.machine.specs.Calls.{state}
-use Rattle.session.specs.declared.Session.{Session}
-use Rattle.session.specs.declared.Taken.{Taken}
+use Rattle.session.specs.declared.state.Session.{Session}
+use Rattle.session.specs.declared.state.Taken.{Taken}
 use Rattle.session.specs.Session.{Bench, Answer, Answers, Runs, Running, taken, untaken, unless, heldBench}
 
 module _ (s : Session) (b : ℕ) (r : Taken) (x d : List ℕ) (q : Runs s (λ y. Answers r x d y (taken y b))) where

@@ -8,8 +8,8 @@ use lib.ListN.{length, getD, take, drop}
 use lib.Seq.{take-suc, take-length, take-add}
 use Rattle.receiver.proofs.Laws.{before-take, before-short}
 use Rattle.machine.specs.Calls.{state}
-use Rattle.session.specs.declared.Gathered.{Gathered}
-use Rattle.session.specs.declared.Session.{Session}
+use Rattle.session.specs.declared.state.Gathered.{Gathered}
+use Rattle.session.specs.declared.state.Session.{Session}
 use Rattle.session.specs.Session.{Bench, taken, heldBench, Running, Runs}
 use Rattle.session.specs.Lines.{after}
 use Rattle.session.specs.Stretch.{isMark, stretch, heldStretch}

@@ -12,8 +12,8 @@ use Rattle.controller.specs.declared.state.Gathered as controller
 use Rattle.controller.specs.Held.{held, heldGathered}
 use Rattle.controller.specs.Reach.{Made}
 use Rattle.session.specs.declared.kept.Kept.{Kept}
-use Rattle.session.specs.declared.Place.the-variants.{Sending, Asking}
-use Rattle.session.specs.declared.Session.{Session}
+use Rattle.session.specs.declared.state.Place.the-variants.{Sending, Asking}
+use Rattle.session.specs.declared.state.Session.{Session}
 use Rattle.session.specs.Kept.{keeping, Keeping}
 use Rattle.session.specs.Session.{heldPlace, keptIn, heldBench, Running, Runs}
 use Rattle.session.specs.Lines.{after}

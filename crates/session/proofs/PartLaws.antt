@@ -17,9 +17,9 @@ use Rattle.controller.specs.declared.state.Controller.{Controller}
 use Rattle.controller.specs.Held.{held}
 use Rattle.session.specs.declared.asked.Asked.the-variants.{Malformed, Ticks}
 use Rattle.session.specs.declared.ticks.Ran.{Ran}
-use Rattle.session.specs.declared.Place.the-variants.{Start, Sending}
-use Rattle.session.specs.declared.Sent.{Sent}
-use Rattle.session.specs.declared.Taken.{Taken}
+use Rattle.session.specs.declared.state.Place.the-variants.{Start, Sending}
+use Rattle.session.specs.declared.state.Sent.{Sent}
+use Rattle.session.specs.declared.state.Taken.{Taken}
 use Rattle.session.specs.Ticks.{sumOf, ranOf}
 use Rattle.session.specs.Text.{sumsText, sumsLength, sumsOver}
 use Rattle.session.specs.Session.{starting, sending, buffer, sends, asks, Told, Passed, stoodAt, atStart}

@@ -12,9 +12,9 @@ use Rattle.machine.specs.State.{Machine}
 use Rattle.controller.specs.declared.state.Controller.{Controller}
 use Rattle.controller.specs.Held.{held}
 use Rattle.session.specs.declared.asked.Asked.{Asked}
-use Rattle.session.specs.declared.Place.the-variants.{Start, Sending, Asking}
-use Rattle.session.specs.declared.Session.{Session}
-use Rattle.session.specs.declared.Taken.{Taken}
+use Rattle.session.specs.declared.state.Place.the-variants.{Start, Sending, Asking}
+use Rattle.session.specs.declared.state.Session.{Session}
+use Rattle.session.specs.declared.state.Taken.{Taken}
 use Rattle.session.specs.Asked.{askedOf}
 use Rattle.session.specs.Kept.{keeping, Keeping}
 use Rattle.session.specs.Session.{

@@ -15,9 +15,9 @@ use Rattle.controller.specs.Reach.{Reachable}
 use Rattle.session.specs.declared.asked.Asked.{Asked}
 use Rattle.session.specs.declared.asked.Asked.the-variants.{Malformed, Ticks}
 use Rattle.session.specs.declared.kept.Kept.{Kept}
-use Rattle.session.specs.declared.Place.the-variants.{Start}
-use Rattle.session.specs.declared.Session.{Session}
-use Rattle.session.specs.declared.Taken.{Taken}
+use Rattle.session.specs.declared.state.Place.the-variants.{Start}
+use Rattle.session.specs.declared.state.Session.{Session}
+use Rattle.session.specs.declared.state.Taken.{Taken}
 use Rattle.session.specs.Asked.{askedOf}
 use Rattle.session.specs.Kept.{keeping}
 use Rattle.session.specs.Session.{

@@ -16,11 +16,11 @@ use Rattle.controller.specs.declared.state.Controller.{Controller}
 use Rattle.controller.specs.Held.{held}
 use Rattle.session.specs.declared.asked.Asked.{Asked}
 use Rattle.session.specs.declared.asked.Asked.the-variants.{Malformed, Ticks}
-use Rattle.session.specs.declared.Place as declared
-use Rattle.session.specs.declared.Place.the-variants.{Start, Sending, Asking}
-use Rattle.session.specs.declared.Session.{Session}
-use Rattle.session.specs.declared.Taken.{Taken}
-use Rattle.session.specs.declared.Sent.{Sent}
+use Rattle.session.specs.declared.state.Place as declared
+use Rattle.session.specs.declared.state.Place.the-variants.{Start, Sending, Asking}
+use Rattle.session.specs.declared.state.Session.{Session}
+use Rattle.session.specs.declared.state.Taken.{Taken}
+use Rattle.session.specs.declared.state.Sent.{Sent}
 use Rattle.session.specs.Asked.{askedOf}
 use Rattle.session.specs.Ticks.{afterTicks, sumOf, numberIn}
 use Rattle.session.specs.Text.{sumsText}

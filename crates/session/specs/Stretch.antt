@@ -7,9 +7,9 @@ use lib.Dec.{eqb}
 use lib.ListN.{length}
 use Rattle.digits.specs.Digits.{endByte}
 use Rattle.receiver.specs.Receiver.{before}
-use Rattle.session.specs.declared.Gathered.{Gathered}
-use Rattle.session.specs.declared.Place.{Place}
-use Rattle.session.specs.declared.Place.the-variants.{Start, Sending, Asking}
+use Rattle.session.specs.declared.state.Gathered.{Gathered}
+use Rattle.session.specs.declared.state.Place.{Place}
+use Rattle.session.specs.declared.state.Place.the-variants.{Start, Sending, Asking}
 use Rattle.session.specs.Session.{Bench, heldBench}
 use Rattle.session.specs.Lines.{prints, after}
 

@@ -5,205 +5,31 @@
 ghost use Prim.Native.Nat.{_≤_};
 ghost use mathlib.Core.List.{[], _∷_, _++_};
 ghost use mathlib.Core.Path.{_≡_};
-ghost use lib.ListN.{length, take};
-ghost use Rattle.block.specs.Block.{over};
-ghost use Rattle.machine.specs.Steps.{byteStep};
-ghost use Rattle.controller.specs.Reach.{Reachable, Made};
+ghost use lib.ListN.{length};
 ghost use Rattle.session.specs.Kept.{Keeping};
 ghost use Rattle.session.specs.Lines.{Lines};
-ghost use Rattle.session.specs.Session.{shownByte, shown, buffer, fresh, asks, ended, character, taken, finished};
-ghost use Rattle.session.specs.Session.{Passed, stoodAt, atStart, keptOf, untakenOf, heldBench};
+ghost use Rattle.session.specs.Session.{fresh, ended, character, taken, finished, keptOf, untakenOf, heldBench};
 ghost use Rattle.session.specs.Session.{Told, Answers, Running, Runs};
-ghost use Rattle.session.specs.Stretch.{isMark, stretch, heldStretch, Silent, keepsOf};
-use crate::asked::Asked;
+ghost use Rattle.session.specs.Stretch.{heldStretch, Silent};
 use crate::kept::Kept;
-use controller::Controller;
+pub use crate::state::Gathered;
+pub use crate::state::Place;
+pub use crate::state::Session;
+pub use crate::state::Taken;
+use crate::stretch::FEED;
+use crate::stretch::LETTER;
 use digits::END;
 
+mod answer;
 mod asked;
 mod kept;
+pub mod state;
+mod stretch;
 mod text;
 mod ticks;
 
-// The line feed, which ends a line of the input; byte 0D goes in for it.
-const FEED: u8 = 10;
-
-// The letter T, and the question mark.
-const LETTER: u8 = 84;
-
-const QUESTION: u8 = 63;
-
 // The reply buffer that a controller asks for.
 const ROOM: usize = 120;
-
-// Where the input stands. A public type, since callers hold sessions within values of their own.
-pub enum Place {
-    // Before the first character of a line.
-    Start,
-    // In a line whose characters go in.
-    Sending,
-    // In a line that begins with T.
-    Asking,
-}
-
-// The controller, the characters of a line that begins with T, and where the input stands.
-pub struct Session {
-    controller: Controller,
-    kept: Kept,
-    place: Place,
-}
-
-// The next session; the length of what is to be printed, which stands at the front of the lent buffer; and a number: 2
-// for a buffer under 120 bytes, the number that turned away the line which ended here, or that of a waiting start which
-// failed in the ticks of a line that begins with T; else 0.
-pub struct Taken {
-    pub session: Session,
-    pub length: usize,
-    pub number: u8,
-}
-
-// The controller after a byte that went in or after ticks, the length of what is to be printed, and the number told.
-struct Sent {
-    controller: Controller,
-    length: usize,
-    number: u8,
-}
-
-// The session after a stretch of characters, and how many they are.
-pub struct Gathered {
-    pub session: Session,
-    pub count: usize,
-}
-
-// Whether a byte is a line feed or 0D.
-fn is_mark(b: u8) -> bool
-    ensures { λ r. ⌜ r ≡ isMark b ⌝ }
-{
-    if b == FEED {
-        return true;
-    }
-    b == END
-}
-
-// How many bytes stand before the first of them.
-fn before_mark(bytes: &[u8]) -> usize
-    ensures { λ r. ⌜ r ≡ length (stretch (now (bytes .entry))) ⌝ }
-{
-    let mut i = 0;
-    while i < bytes.len() {
-        if is_mark(bytes[i]) {
-            return i;
-        }
-        i += 1;
-    }
-    i
-}
-
-// Whether a line whose next character is b begins with T.
-fn keeps(place: Place, b: u8) -> bool
-    ensures { λ r. ⌜ r ≡ keepsOf place b ⌝ }
-{
-    match place {
-        Place::Start => b == LETTER,
-        Place::Sending => false,
-        Place::Asking => true,
-    }
-}
-
-// A byte of a reply as it is printed.
-fn shown_byte(c: u8) -> u8
-    ensures { λ r. ⌜ r ≡ shownByte c ⌝ }
-{
-    if c == END {
-        return FEED;
-    }
-    c
-}
-
-// The front part of a buffer as it is printed.
-fn show(buf: &mut [u8], n: usize)
-    requires { ⌜ n ≤ length (now buf) ⌝ }
-    ensures { λ _. ⌜ now (buf .exit) ≡ over (shown (take n (now (buf .entry)))) (now (buf .entry)) ⌝ }
-{
-    let mut i = 0;
-    while i < n {
-        buf[i] = shown_byte(buf[i]);
-        i += 1;
-    }
-}
-
-// A byte goes in, and its reply is made ready to print.
-fn send(c: Controller, buf: &mut [u8], b: u8) -> Sent
-    requires { ⌜ Reachable c ⌝ }
-    requires { ⌜ 120 ≤ length (now buf) ⌝ }
-    ensures { λ r. ⌜ Made c (λ m. Passed r (now (buf .exit)) (now (buf .entry)) (byteStep m b buffer)) ⌝ }
-{
-    let a = c.byte(buf, b);
-    let length = a.length;
-    show(buf, length);
-    let controller = a.controller;
-    Sent {
-        controller,
-        length,
-        number: a.number,
-    }
-}
-
-// A session with nothing kept.
-fn stand(sent: Sent, place: Place) -> Taken
-    ensures { λ r. ⌜ r ≡ stoodAt sent place ⌝ }
-{
-    let controller = sent.controller;
-    let kept = Kept::new();
-    let session = Session {
-        controller,
-        kept,
-        place,
-    };
-    Taken {
-        session,
-        length: sent.length,
-        number: sent.number,
-    }
-}
-
-// `?` and a line feed.
-fn question(c: Controller, buf: &mut [u8]) -> Taken
-    requires { ⌜ 120 ≤ length (now buf) ⌝ }
-    ensures { λ r. ⌜ (r ≡ atStart c 2) × (now (buf .exit) ≡ over (63 ∷ 10 ∷ []) (now (buf .entry))) ⌝ }
-{
-    buf[0] = QUESTION;
-    buf[1] = FEED;
-    let sent = Sent {
-        controller: c,
-        length: 2,
-        number: 0,
-    };
-    stand(sent, Place::Start)
-}
-
-// A line that begins with T.
-fn answer(c: Controller, buf: &mut [u8], asked: Asked) -> Taken
-    requires { ⌜ Reachable c ⌝ }
-    requires { ⌜ 120 ≤ length (now buf) ⌝ }
-    ensures { λ r. ⌜ Made c (λ m. Told r (now (buf .exit)) (now (buf .entry)) (asks m asked)) ⌝ }
-{
-    match asked {
-        Asked::Malformed => question(c, buf),
-        Asked::Ticks { count, word } => {
-            let ran = ticks::run_ticks(c, count, word);
-            let sums = ran.sums;
-            let length = text::write_sums(buf, sums);
-            let controller = ran.controller;
-            let sent = Sent {
-                controller,
-                length,
-                number: ran.number,
-            };
-            stand(sent, Place::Start)
-        }
-    }
-}
 
 impl Session {
     // A controller of switch 0, before any line. The law of whole lines stands here as a promise, so that the gate
@@ -254,15 +80,15 @@ impl Session {
             Place::Asking => {
                 let kept = self.kept;
                 let asked = kept.asked();
-                answer(controller, buf, asked)
+                answer::answer(controller, buf, asked)
             }
             Place::Start => {
-                let sent = send(controller, buf, END);
-                stand(sent, Place::Start)
+                let sent = answer::send(controller, buf, END);
+                answer::stand(sent, Place::Start)
             }
             Place::Sending => {
-                let sent = send(controller, buf, END);
-                stand(sent, Place::Start)
+                let sent = answer::send(controller, buf, END);
+                answer::stand(sent, Place::Start)
             }
         }
     }
@@ -281,13 +107,13 @@ impl Session {
                     return self.keep(b);
                 }
                 let controller = self.controller;
-                let sent = send(controller, buf, b);
-                stand(sent, Place::Sending)
+                let sent = answer::send(controller, buf, b);
+                answer::stand(sent, Place::Sending)
             }
             Place::Sending => {
                 let controller = self.controller;
-                let sent = send(controller, buf, b);
-                stand(sent, Place::Sending)
+                let sent = answer::send(controller, buf, b);
+                answer::stand(sent, Place::Sending)
             }
         }
     }
@@ -300,12 +126,12 @@ impl Session {
         ensures { λ _. ⌜ Runs self (λ x. Silent x (now (bytes .entry))) ⌝ }
         ensures { λ r. ⌜ Running (r .session) ⌝ }
     {
-        let count = before_mark(bytes);
+        let count = stretch::before_mark(bytes);
         let mut controller = self.controller;
         let mut kept = self.kept;
         let mut place = self.place;
         if 0 < count {
-            if keeps(place, bytes[0]) {
+            if stretch::keeps(place, bytes[0]) {
                 let more = kept.push_all(&bytes[..count]);
                 kept = more;
                 place = Place::Asking;

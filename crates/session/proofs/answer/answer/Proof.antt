@@ -1,0 +1,66 @@
+-- A line that begins with T, by what it asks. Assumes nothing.
+use mathlib.Core.Path.{sym, subst}
+use borrow.Author.Needs.{needs}
+use Rattle.machine.specs.Calls.{state}
+use Rattle.session.specs.Session.{asks, Told}
+use Rattle.session.proofs.PartLaws.{question-told, ticks-told}
+use Rattle.session.proofs.answer.answer.Statement.{statement}
+use Rattle.session.proofs.answer.answer.Tie as tie
+
+enum-told : tie.Need-enum-told
+enum-told c = search needs
+
+question-requires : tie.Need-question-requires
+question-requires c κs = c .before .before .before .before .pre .1
+
+enum-known-asked : tie.Need-enum-known-asked
+enum-known-asked c = search needs
+
+run-ticks-requires : tie.Need-run-ticks-requires
+run-ticks-requires c κs = c .before .before .before .before .pre .0
+
+write-sums-requires : tie.Need-write-sums-requires
+write-sums-requires c κs = tt
+
+stand-requires : tie.Need-stand-requires
+stand-requires c κs = tt
+
+same-length : tie.Need-same-length
+same-length c = search needs
+
+returns : tie.Need-returns
+returns c =
+    let l = c .before .before .before .before .before .before .before in
+    let q = c .before .before .question in
+    λ s h e. subst (λ a. Told (q .result) (q .last .1 .0) (l .args .buf .now) (asks (state s h) a))
+    (sym (c .before .before .before .before .enum-told .given .1))
+    (question-told (state s h) (l .args .buf .now) (q .last .1 .0) (l .args .c) (q .result) e (q .ensures .0)
+    (q .ensures .1))
+
+same-length-2 : tie.Need-same-length-2
+same-length-2 c = search needs
+
+returns-2 : tie.Need-returns-2
+returns-2 c =
+    let l = c .before .before .before .before .before .before .before .before .before .before .before .before in
+    let t = c .before .before .before .before .before .before .before .run-ticks in
+    let w = c .before .before .before .before .write-sums in
+    λ s h e. subst (λ a. Told (c .stand .result) (w .last .0) (l .args .buf .now) (asks (state s h) a))
+    (sym (c .before .before .before .before .before .before .before .before .before .asked .given .1))
+    (ticks-told (state s h) (l .args .buf .now) (w .last .0) _ _ (t .result) (w .result) (c .stand .result)
+    (l .pre .1) (t .ensures s h e) (w .ensures .0) (w .ensures .1) (c .stand .ensures))
+
+pub answer-spec : {M : Type 1} → statement M
+answer-spec =
+    tie.close
+    (tie.spec
+    enum-told
+    question-requires
+    enum-known-asked
+    run-ticks-requires
+    write-sums-requires
+    stand-requires
+    same-length
+    returns
+    same-length-2
+    returns-2)
