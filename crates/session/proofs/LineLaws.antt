@@ -9,9 +9,10 @@ use lib.Dec.{eqb}
 use lib.Seq.{append-snoc}
 use Rattle.machine.specs.State.{Machine}
 use Rattle.machine.specs.Steps.{byteStep}
+use Rattle.machine.specs.Calls.{Call, byte, bytes, run, from}
 use Rattle.session.specs.Asked.{askedOf}
 use Rattle.session.specs.Session.{sending, asking, Answer, shown, buffer, asks}
-use Rattle.session.specs.Lines.{prints, atLine, Done, goesIn, doneBy, lineDone, isLine, Lines}
+use Rattle.session.specs.Lines.{prints, atLine, Done, replies, goesIn, doneBy, lineDone, isLine, Lines}
 
 -- A character of a line is no line feed, and the rest is a line.
 char : (t r : Bool) → not t && r ≡ true → t ≡ false
@@ -45,22 +46,37 @@ asking-last m l (c ∷ cs) e =
 
 -- ---- in a line that goes in
 
+-- Bytes after some calls go in from the machine that these left.
+from-on : (m : Machine) (bs : List ℕ) (h : List Call) → from m (bytes bs h) ≡ from (from m h) (bytes bs [])
+unfolding run
+from-on m [] h = refl
+from-on m (b ∷ bs) h = from-on m bs (byte b buffer ∷ h) ∙ sym (from-on (from m h) bs (byte b buffer ∷ []))
+
+-- The rest of a line, one of whose characters went in.
+next : (m : Machine) (c : ℕ) (cs rest : List ℕ)
+    → prints (atLine (from (byteStep m c buffer .machine) (bytes cs []))) rest
+    ≡ prints (atLine (from m (bytes (c ∷ cs) []))) rest
+unfolding run
+next m c cs rest = ap (λ (x : Machine). prints (atLine x) rest) (sym (from-on m cs (byte c buffer ∷ [])))
+
 sending-whole : (m : Machine) (cs rest : List ℕ) → isLine cs ≡ true
     → prints (record { machine = m; place = sending }) (cs ++ (10 ∷ rest))
     ≡ goesIn m (cs ++ (13 ∷ [])) .printed ++ prints (goesIn m (cs ++ (13 ∷ [])) .bench) rest
-unfolding prints goesIn
+unfolding prints replies run
 sending-whole m [] rest e =
     ap (λ (x : List ℕ). x ++ prints (atLine (byteStep m 13 buffer .machine)) rest)
     (sym (append-nil (shown (byteStep m 13 buffer .reply))))
 sending-whole m (c ∷ cs) rest e =
     rw (char (eqb c 10) (isLine cs) e)
     (ap (λ (x : List ℕ). shown (byteStep m c buffer .reply) ++ x)
-    (sending-whole (byteStep m c buffer .machine) cs rest (rest-line (eqb c 10) (isLine cs) e))
+    (sending-whole (byteStep m c buffer .machine) cs rest (rest-line (eqb c 10) (isLine cs) e)
+    ∙ ap (λ (x : List ℕ). replies (byteStep m c buffer .machine) (cs ++ (13 ∷ [])) ++ x)
+    (next m c (cs ++ (13 ∷ [])) rest))
     ∙ sym (append-assoc (shown (byteStep m c buffer .reply)) _ _))
 
 sending-last : (m : Machine) (cs : List ℕ) → isLine cs ≡ true
     → prints (record { machine = m; place = sending }) cs ≡ goesIn m (cs ++ (13 ∷ [])) .printed
-unfolding prints goesIn
+unfolding prints replies run
 sending-last m [] e = sym (append-nil (shown (byteStep m 13 buffer .reply)))
 sending-last m (c ∷ cs) e =
     rw (char (eqb c 10) (isLine cs) e)
@@ -71,7 +87,7 @@ sending-last m (c ∷ cs) e =
 
 whole-line : (m : Machine) (cs rest : List ℕ) → isLine cs ≡ true
     → prints (atLine m) (cs ++ (10 ∷ rest)) ≡ lineDone m cs .printed ++ prints (lineDone m cs .bench) rest
-unfolding prints goesIn
+unfolding prints replies run
 whole-line m [] rest e =
     ap (λ (x : List ℕ). x ++ prints (atLine (byteStep m 13 buffer .machine)) rest)
     (sym (append-nil (shown (byteStep m 13 buffer .reply))))
@@ -97,12 +113,14 @@ whole-line m (c ∷ cs) rest e = rw (char (eqb c 10) (isLine cs) e) (by (eqb c 8
     by true = asking-whole m (c ∷ []) cs rest r
     by false =
         ap (λ (x : List ℕ). shown (byteStep m c buffer .reply) ++ x)
-        (sending-whole (byteStep m c buffer .machine) cs rest r)
+        (sending-whole (byteStep m c buffer .machine) cs rest r
+        ∙ ap (λ (x : List ℕ). replies (byteStep m c buffer .machine) (cs ++ (13 ∷ [])) ++ x)
+        (next m c (cs ++ (13 ∷ [])) rest))
         ∙ sym (append-assoc (shown (byteStep m c buffer .reply)) _ _)
 
 last-line : (m : Machine) (c : ℕ) (cs : List ℕ) → isLine (c ∷ cs) ≡ true
     → prints (atLine m) (c ∷ cs) ≡ lineDone m (c ∷ cs) .printed
-unfolding prints goesIn
+unfolding prints replies run
 last-line m c cs e = rw (char (eqb c 10) (isLine cs) e) (by (eqb c 84))
   where
     r : isLine cs ≡ true

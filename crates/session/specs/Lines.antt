@@ -8,6 +8,7 @@ use lib.Dec.{eqb}
 use Rattle.digits.specs.Digits.{endByte}
 use Rattle.machine.specs.State.{Machine}
 use Rattle.machine.specs.Steps.{byteStep}
+use Rattle.machine.specs.Calls.{bytes, from}
 use Rattle.session.specs.Asked.{askedOf}
 use Rattle.session.specs.Session.{starting, Bench, Answer, shown, buffer, asks, taken, finished}
 
@@ -30,13 +31,14 @@ pub record Done : Type 0 where
   pub bench : Bench
   pub printed : List ℕ
 
+-- What bytes that go in one after another print: their replies.
+unfoldable pub replies : Machine → List ℕ → List ℕ
+replies m [] = []
+replies m (b ∷ bs) = shown (byteStep m b buffer .reply) ++ replies (byteStep m b buffer .machine) bs
+
 -- Bytes go in one after another, and their replies print.
-unfoldable pub goesIn : Machine → List ℕ → Done
-goesIn m [] = record { bench = atLine m; printed = [] }
-goesIn m (b ∷ bs) = record {
-  bench = goesIn (byteStep m b buffer .machine) bs .bench;
-  printed = shown (byteStep m b buffer .reply) ++ goesIn (byteStep m b buffer .machine) bs .printed;
-}
+abbrev pub goesIn : Machine → List ℕ → Done
+goesIn m bs = record { bench = atLine (from m (bytes bs [])); printed = replies m bs }
 
 abbrev pub beginsWithT : List ℕ → Bool
 beginsWithT [] = false
