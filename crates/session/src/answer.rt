@@ -20,6 +20,7 @@ use crate::ticks;
 use controller::Controller;
 use digits::END;
 
+// The question mark.
 const QUESTION: u8 = 63;
 
 // A byte of a reply as it is printed.
