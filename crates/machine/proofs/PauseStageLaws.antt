@@ -82,7 +82,8 @@ at-end : (b : Bool) (x y : ℕ) → b ≡ true → x ≡ cond (b && true) x y
 at-end b x y e = rw e refl
 
 pub record Ramped (s : Machine) (a : Machine) : Type 0 where
-  pub left : a .pause .left ≡ cond (s .move .moving && not (a .move .moving)) (250 * s .settings .dwell) (s .pause .left)
+  pub left : a .pause .left
+      ≡ cond (s .move .moving && not (a .move .moving)) (250 * s .settings .dwell) (s .pause .left)
   pub waiting : a .pause .waiting ≡ s .pause .waiting
   pub dwell : a .settings .dwell ≡ s .settings .dwell
 

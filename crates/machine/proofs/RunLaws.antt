@@ -68,7 +68,8 @@ module _ (m : Machine) (g : Good (m .move)) where
     ending = λ p q r. true-false (m .move .moving) e r;
   }
 
-  pub runs-on : (e : m .move .moving ≡ true) (u grown : ℕ) → Runs m (advanced m u grown .pulse) (advanced m u grown .machine)
+  pub runs-on : (e : m .move .moving ≡ true) (u grown : ℕ)
+      → Runs m (advanced m u grown .pulse) (advanced m u grown .machine)
   runs-on e u grown =
       by-bool (λ (r : Ran). Runs m (r .pulse) (r .machine)) (ltb grown full) _ _
       (λ q. runs-turn u grown e) (λ q. runs-pulse m g e u (grown - full))

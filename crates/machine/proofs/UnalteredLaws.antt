@@ -1,5 +1,5 @@
--- What no line alters: the switch, the last tick's inputs and the characters received since; and these do not count in a
--- command's number. Assumes nothing.
+-- What no line alters: the switch, the last tick's inputs and the characters received since; and these do not count in
+-- a command's number. Assumes nothing.
 use Prim.Native.Nat.{ℕ}
 use mathlib.Core.List.{List}
 use mathlib.Core.Path.{_≡_, refl}

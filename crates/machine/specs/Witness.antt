@@ -1,7 +1,7 @@
--- Lists of calls to which demand 3 has something to say. One: a start takes effect, its move is stopped by order 9 at a
--- pulse where the shares are no whole numbers, and another runs to its end. Distances 5, 2 and minus 3, master 0, switch
--- 0. Another, with a dwell of 1 ms: a start stored in the dwell begins with the master that it names, and one fails as
--- its dwell runs out. And a start turned away by each of its numbers.
+-- Lists of calls to which demand 3 has something to say. One: a start takes effect, its move is stopped by order 9 at
+-- a pulse where the shares are no whole numbers, and another runs to its end. Distances 5, 2 and minus 3, master 0,
+-- switch 0. Another, with a dwell of 1 ms: a start stored in the dwell begins with the master that it names, and one
+-- fails as its dwell runs out. And a start turned away by each of its numbers.
 use Prim.Native.Nat.{ℕ}
 use Prim.Native.String.{String}
 use mathlib.Core.Bool.{Bool, true, false}
