@@ -8,7 +8,7 @@ use mathlib.Core.Path.{_≡_, refl, sym, ap, _∙_}
 use lib.IntN.{ℤ, pos, _+ℤ_}
 use lib.ListN.{getD}
 use Rattle.laws.specs.Axes.{each}
-use Rattle.reply.specs.declared.Travel.{Travel}
+use Rattle.reply.specs.declared.readings.Travel.{Travel}
 use Rattle.reply.specs.Reply.{positionOf}
 use Rattle.machine.specs.State.{Machine}
 use Rattle.machine.specs.Replies as replies

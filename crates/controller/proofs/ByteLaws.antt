@@ -19,8 +19,8 @@ use Rattle.line.specs.Ranges.{isWithin}
 use Rattle.line.specs.Fits.{CommandFits}
 use Rattle.line.proofs.Ranges.{axis, distance, by-code}
 use Rattle.outputs.specs.Outputs.{restOf, fireOf}
-use Rattle.reply.specs.declared.Travel.{Travel}
-use Rattle.reply.specs.declared.Position.{Position}
+use Rattle.reply.specs.declared.readings.Travel.{Travel}
+use Rattle.reply.specs.declared.readings.Position.{Position}
 use Rattle.reply.specs.Reply.{travelDigits, twenty, bias, origin, replyOf, toldBy}
 use Rattle.reply.proofs.Replies.{reply-same}
 use Rattle.machine.specs.State.{Machine, withFlags, withMove, withWatch}

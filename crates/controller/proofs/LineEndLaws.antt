@@ -11,7 +11,7 @@ use Rattle.block.proofs.Buffers.{over-nil}
 use Rattle.line.specs.declared.command.Command.{Command}
 use Rattle.line.specs.declared.Judged.{Judged}
 use Rattle.line.specs.declared.Judged.the-variants.{Accepted, Refused}
-use Rattle.reply.specs.declared.Readings.{Readings}
+use Rattle.reply.specs.declared.readings.Readings.{Readings}
 use Rattle.reply.specs.Reply.{toldBy, replyOf, refusalOf}
 use Rattle.reply.proofs.Replies.{reply-over, reply-length, refusal-over, refusal-length}
 use Rattle.controller.specs.declared.state.Controller.{Controller}

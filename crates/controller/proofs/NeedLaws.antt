@@ -6,8 +6,8 @@ use native.Mathlib.Omega.{arith}
 use native.Mathlib.Nat.{mod-lt}
 use Rattle.laws.proofs.Tests.{true-false}
 use Rattle.reply.specs.Reply.{bias}
-use Rattle.reply.specs.declared.Travel.{Travel}
-use Rattle.reply.specs.declared.Position.{Position}
+use Rattle.reply.specs.declared.readings.Travel.{Travel}
+use Rattle.reply.specs.declared.readings.Position.{Position}
 use Rattle.machine.specs.State.{Machine}
 use Rattle.machine.specs.Shares.{whole, gone}
 use Rattle.machine.proofs.PositionLaws.{Room}

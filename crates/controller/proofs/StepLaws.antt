@@ -11,8 +11,8 @@ use mir.Syntax.{w8}
 use mir.Val.{toZ, ofZ}
 use lib.ListN.{getD}
 use Rattle.laws.proofs.Pick.{on-true}
-use Rattle.reply.specs.declared.Travel.{Travel}
-use Rattle.reply.specs.declared.Position.{Position}
+use Rattle.reply.specs.declared.readings.Travel.{Travel}
+use Rattle.reply.specs.declared.readings.Position.{Position}
 use Rattle.controller.specs.declared.motion.Share.{Share}
 use Rattle.controller.specs.declared.motion.Axis.{Axis}
 use Rattle.controller.specs.declared.ramp.Paced.{Paced}

@@ -8,8 +8,8 @@ use mathlib.Core.Path.{_≡_}
 use lib.IntN.{ℤ, pos, _+ℤ_}
 use lib.ListN.{length, getD}
 use Rattle.laws.specs.Axes.{each}
-use Rattle.reply.specs.declared.Travel.{Travel}
-use Rattle.reply.specs.declared.Position.{Position}
+use Rattle.reply.specs.declared.readings.Travel.{Travel}
+use Rattle.reply.specs.declared.readings.Position.{Position}
 use Rattle.reply.specs.Reply.{positionOf}
 use Rattle.machine.specs.State.{Machine}
 use Rattle.machine.specs.Steps.{byteStep, tickStep, bufferAfter}

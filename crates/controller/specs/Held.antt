@@ -7,8 +7,8 @@ use lib.ListN.{length}
 use Rattle.laws.specs.Axes.{each}
 use Rattle.outputs.specs.Outputs.{generalOf, restOf, fireOf, stillOf}
 use Rattle.receiver.specs.Receiver.{holding, beforeEnd}
-use Rattle.reply.specs.declared.Travel.{Travel}
-use Rattle.reply.specs.declared.Position.{Position}
+use Rattle.reply.specs.declared.readings.Travel.{Travel}
+use Rattle.reply.specs.declared.readings.Position.{Position}
 use Rattle.reply.specs.Reply.{bias}
 use Rattle.machine.specs.State as M
 use Rattle.machine.specs.State.{Machine, none, start}

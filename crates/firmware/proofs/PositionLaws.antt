@@ -12,7 +12,7 @@ use mir.Val.{SFits, toZ, ofZ}
 use mir.ValLaws.{toZ-ofZ}
 use Rattle.laws.specs.Axes.{each}
 use Rattle.laws.proofs.Five.{five}
-use Rattle.reply.specs.declared.Position.{Position}
+use Rattle.reply.specs.declared.readings.Position.{Position}
 use Rattle.reply.specs.Reply.{positionOf}
 use Rattle.machine.specs.Starts.{outside}
 use Rattle.machine.specs.Calls.{Call, state}

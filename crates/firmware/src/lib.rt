@@ -4,7 +4,7 @@
 ghost use mathlib.Core.List.{List, map};
 ghost use mathlib.Core.Path.{_≡_};
 ghost use Rattle.laws.specs.Axes.{each};
-ghost use Rattle.reply.specs.declared.Position.{Position};
+ghost use Rattle.reply.specs.declared.readings.Position.{Position};
 ghost use Rattle.reply.specs.Reply.{positionOf};
 ghost use Rattle.machine.specs.Stops.{status};
 ghost use Rattle.controller.specs.Held.{heldPower};

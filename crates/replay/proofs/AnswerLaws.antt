@@ -8,8 +8,8 @@ use lib.ListN.{length, take, replicate, length-replicate}
 use Rattle.laws.specs.Axes.{each}
 use Rattle.block.specs.Block.{frontOf}
 use Rattle.block.proofs.Buffers.{front-over}
-use Rattle.reply.specs.declared.Travel.{Travel}
-use Rattle.reply.specs.declared.Position.{Position}
+use Rattle.reply.specs.declared.readings.Travel.{Travel}
+use Rattle.reply.specs.declared.readings.Position.{Position}
 use Rattle.machine.specs.State.{Machine}
 use Rattle.machine.specs.Stops.{status}
 use Rattle.machine.specs.Steps.{byteStep, tickStep, bufferAfter}

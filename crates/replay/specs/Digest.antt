@@ -5,8 +5,8 @@ use mathlib.Core.List.{List, [], _∷_}
 use lib.Dec.{eqb}
 use lib.IntN.{ℤ, pos, negsuc}
 use lib.ListN.{getD}
-use Rattle.reply.specs.declared.Travel.{Travel}
-use Rattle.reply.specs.declared.Position.{Position}
+use Rattle.reply.specs.declared.readings.Travel.{Travel}
+use Rattle.reply.specs.declared.readings.Position.{Position}
 
 -- Three numbers mixed into the digest h.
 unfoldable pub mixed : ℕ → ℕ → ℕ → ℕ → ℕ

@@ -11,7 +11,7 @@ use Rattle.digits.specs.declared.Ident.the-variants.{Absent, Given}
 use Rattle.block.specs.Block.{blockOf, rowOf}
 use Rattle.line.specs.declared.command.Command.the-variants as C
 use Rattle.line.specs.declared.command.Reading.the-variants as R
-use Rattle.reply.specs.declared.Readings.{Readings}
+use Rattle.reply.specs.declared.readings.Readings.{Readings}
 use Rattle.reply.specs.Reply.{twenty, positionOf, toldBy, replyOf, refusalOf}
 
 -- The bytes of a text, then 0D.

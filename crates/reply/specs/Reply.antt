@@ -17,8 +17,8 @@ use Rattle.line.specs.declared.command.Reading.{Reading}
 use Rattle.line.specs.declared.command.Reading.the-variants as R
 use Rattle.reply.specs.declared.Answer.{Answer}
 use Rattle.reply.specs.declared.Answer.the-variants.{One, All}
-use Rattle.reply.specs.declared.Position.{Position}
-use Rattle.reply.specs.declared.Readings.{Readings}
+use Rattle.reply.specs.declared.readings.Position.{Position}
+use Rattle.reply.specs.declared.readings.Readings.{Readings}
 
 -- What replies are made from: the switch, for each axis the five digits of its travel (with the minus bit) and of its
 -- position, the status and the last tick's inputs.

@@ -9,8 +9,8 @@ use lib.ListN.{getD}
 use Rattle.laws.specs.Axes.{each, directed}
 use Rattle.machine.specs.Ramp as ramp
 use Rattle.machine.specs.Outputs.{word}
-use Rattle.reply.specs.declared.Travel.{Travel}
-use Rattle.reply.specs.declared.Position.{Position}
+use Rattle.reply.specs.declared.readings.Travel.{Travel}
+use Rattle.reply.specs.declared.readings.Position.{Position}
 use Rattle.controller.specs.declared.state.Hot.{Hot}
 use Rattle.controller.specs.declared.state.Settings.{Settings}
 use Rattle.controller.specs.declared.state.Plan.{Plan}

@@ -9,8 +9,8 @@ use Rattle.inputs.specs.Inputs.{someBlocked}
 use Rattle.outputs.specs.declared.Cells.{Cells}
 use Rattle.outputs.specs.Outputs.{restOf, fireOf, stillOf}
 use Rattle.receiver.specs.declared.Receiver.{Receiver}
-use Rattle.reply.specs.declared.Travel.{Travel}
-use Rattle.reply.specs.declared.Position.{Position}
+use Rattle.reply.specs.declared.readings.Travel.{Travel}
+use Rattle.reply.specs.declared.readings.Position.{Position}
 use Rattle.controller.specs.declared.state.Controller.{Controller}
 use Rattle.controller.specs.declared.state.Hot.{Hot}
 use Rattle.controller.specs.declared.state.Settings.{Settings}

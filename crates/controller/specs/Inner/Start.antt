@@ -7,7 +7,7 @@ use lib.ListN.{getD}
 use Rattle.laws.specs.Axes.{each, some}
 use Rattle.inputs.specs.Inputs.{activeAt}
 use Rattle.outputs.specs.declared.Cells.{Cells}
-use Rattle.reply.specs.declared.Position.{Position}
+use Rattle.reply.specs.declared.readings.Position.{Position}
 use Rattle.controller.specs.declared.state.Hot.{Hot}
 use Rattle.controller.specs.declared.state.Settings.{Settings}
 use Rattle.controller.specs.declared.state.Plan.{Plan}

@@ -3,7 +3,7 @@ use Prim.Native.Nat.{ℕ, _+_}
 use mathlib.Core.Bool.{Bool, cond, _||_}
 use lib.Dec.{ltb}
 use Rattle.laws.specs.Bits.{weight}
-use Rattle.reply.specs.declared.Readings.{Readings}
+use Rattle.reply.specs.declared.readings.Readings.{Readings}
 use Rattle.controller.specs.declared.state.Controller.{Controller}
 use Rattle.controller.specs.declared.state.Plan.{Plan}
 use Rattle.controller.specs.declared.state.Hot.{Hot}

@@ -1,6 +1,5 @@
 -- The reply by the two cases of the answer: one block, or twelve. Assumes nothing.
 use borrow.Author.Needs.{needs}
-use mathlib.Core.List.{[], _∷_}
 use mathlib.Core.Path.{sym, _∙_}
 use denote.Ref.{now}
 use Rattle.reply.specs.Reply.{toldBy}
@@ -20,38 +19,8 @@ write-block-requires c κs = search needs
 enum-told : tie.Need-enum-told
 enum-told c = search needs
 
-travel-number-requires : tie.Need-travel-number-requires
-travel-number-requires c κs = search needs
-
-travel-number-requires-2 : tie.Need-travel-number-requires-2
-travel-number-requires-2 c κs = search needs
-
-travel-number-requires-3 : tie.Need-travel-number-requires-3
-travel-number-requires-3 c κs = search needs
-
-travel-number-requires-4 : tie.Need-travel-number-requires-4
-travel-number-requires-4 c κs = search needs
-
-travel-number-requires-5 : tie.Need-travel-number-requires-5
-travel-number-requires-5 c κs = search needs
-
-status-number-requires : tie.Need-status-number-requires
-status-number-requires c κs = search needs
-
-position-number-requires : tie.Need-position-number-requires
-position-number-requires c κs = search needs
-
-position-number-requires-2 : tie.Need-position-number-requires-2
-position-number-requires-2 c κs = search needs
-
-position-number-requires-3 : tie.Need-position-number-requires-3
-position-number-requires-3 c κs = search needs
-
-position-number-requires-4 : tie.Need-position-number-requires-4
-position-number-requires-4 c κs = search needs
-
-position-number-requires-5 : tie.Need-position-number-requires-5
-position-number-requires-5 c κs = search needs
+all-numbers-requires : tie.Need-all-numbers-requires
+all-numbers-requires c κs = search needs
 
 write-twelve-requires : tie.Need-write-twelve-requires
 write-twelve-requires c κs = search needs
@@ -76,26 +45,12 @@ same-length-2 c = search needs
 returns-2 : tie.Need-returns-2
 returns-2 c =
     let w = c .before .before .write-twelve in
-    let p = c .before .before .before .before in
-    let t = p .before .before .before .before .before .before in
-    let m = t .before .before .before .before .before .before .before in
+    let n = c .before .before .before .before in
+    let m = n .before .before .before in
     let r = m .before .before .answer-to in
     let a = m .before .before .before .before .args in
     written (now (a .buf))
-    (twelve-blocks (toldBy (a .readings)) (a .command) (a .digits) (a .ident)
-    (λ i. t .before .before .before .before .travel-number .ensures i
-    ∷ t .before .before .before .travel-number2 .ensures i
-    ∷ t .before .before .travel-number3 .ensures i
-    ∷ t .before .travel-number4 .ensures i
-    ∷ t .travel-number5 .ensures i
-    ∷ p .before .before .before .before .before .status-number .ensures i
-    ∷ p .before .before .before .before .position-number .ensures i
-    ∷ p .before .before .before .position-number2 .ensures i
-    ∷ p .before .before .position-number3 .ensures i
-    ∷ p .before .position-number4 .ensures i
-    ∷ p .position-number5 .ensures i
-    ∷ a .readings .inputs
-    ∷ [])
+    (twelve-blocks (toldBy (a .readings)) (a .command) (a .digits) (a .ident) (n .all-numbers .ensures)
     (sym (m .enum-told .given .1) ∙ r .ensures))
     (w .ensures .0) (w .ensures .1)
 
@@ -107,17 +62,7 @@ write-reply-spec =
     enum-known-answer
     write-block-requires
     enum-told
-    travel-number-requires
-    travel-number-requires-2
-    travel-number-requires-3
-    travel-number-requires-4
-    travel-number-requires-5
-    status-number-requires
-    position-number-requires
-    position-number-requires-2
-    position-number-requires-3
-    position-number-requires-4
-    position-number-requires-5
+    all-numbers-requires
     write-twelve-requires
     same-length
     returns

@@ -2,8 +2,8 @@
 use borrow.Author.Needs.{needs}
 use mathlib.Core.Bool.{false}
 use Rattle.reply.proofs.Figures.{absent}
-use Rattle.reply.proofs.minus_at.Statement.{statement}
-use Rattle.reply.proofs.minus_at.Tie as tie
+use Rattle.reply.proofs.numbers.minus_at.Statement.{statement}
+use Rattle.reply.proofs.numbers.minus_at.Tie as tie
 
 returns : tie.Need-returns
 returns c =

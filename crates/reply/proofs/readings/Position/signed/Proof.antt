@@ -1,8 +1,8 @@
 -- The position of any u32 that is held, by the laws of its bits. Assumes nothing.
 use borrow.Author.Needs.{needs}
 use Rattle.reply.proofs.Figures.{less-fits, less-is}
-use Rattle.reply.proofs.Position.signed.Statement.{statement}
-use Rattle.reply.proofs.Position.signed.Tie as tie
+use Rattle.reply.proofs.readings.Position.signed.Statement.{statement}
+use Rattle.reply.proofs.readings.Position.signed.Tie as tie
 
 cast-result : tie.Need-cast-result
 cast-result c = search needs

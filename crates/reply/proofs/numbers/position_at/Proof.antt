@@ -4,8 +4,8 @@ use native.Mathlib.Omega.{arith}
 use Rattle.line.proofs.Laws.{any-default}
 use Rattle.reply.specs.Reply.{origin}
 use Rattle.reply.proofs.Figures.{absent}
-use Rattle.reply.proofs.position_at.Statement.{statement}
-use Rattle.reply.proofs.position_at.Tie as tie
+use Rattle.reply.proofs.numbers.position_at.Statement.{statement}
+use Rattle.reply.proofs.numbers.position_at.Tie as tie
 
 returns : tie.Need-returns
 returns c =

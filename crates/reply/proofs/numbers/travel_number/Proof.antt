@@ -1,8 +1,8 @@
 -- The six digits of a travel, with the minus bit and without. Assumes nothing.
 use borrow.Author.Needs.{needs}
 use native.Mathlib.Omega.{arith}
-use Rattle.reply.proofs.travel_number.Statement.{statement}
-use Rattle.reply.proofs.travel_number.Tie as tie
+use Rattle.reply.proofs.numbers.travel_number.Statement.{statement}
+use Rattle.reply.proofs.numbers.travel_number.Tie as tie
 
 minus-at-requires : tie.Need-minus-at-requires
 minus-at-requires c κs = search needs

@@ -3,8 +3,8 @@ use borrow.Author.Needs.{needs}
 use mathlib.Core.Path.{sym, ap}
 use Rattle.reply.specs.Reply.{coded}
 use Rattle.reply.proofs.Figures.{twenty-held}
-use Rattle.reply.proofs.position_number.Statement.{statement}
-use Rattle.reply.proofs.position_number.Tie as tie
+use Rattle.reply.proofs.numbers.position_number.Statement.{statement}
+use Rattle.reply.proofs.numbers.position_number.Tie as tie
 
 position-at-requires : tie.Need-position-at-requires
 position-at-requires c κs = search needs

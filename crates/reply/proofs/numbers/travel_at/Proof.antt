@@ -1,8 +1,8 @@
 -- An axis's travel: of an axis that is not there, 0. Assumes nothing.
 use borrow.Author.Needs.{needs}
 use Rattle.reply.proofs.Figures.{absent}
-use Rattle.reply.proofs.travel_at.Statement.{statement}
-use Rattle.reply.proofs.travel_at.Tie as tie
+use Rattle.reply.proofs.numbers.travel_at.Statement.{statement}
+use Rattle.reply.proofs.numbers.travel_at.Tie as tie
 
 returns : tie.Need-returns
 returns c =
