@@ -1,7 +1,6 @@
 // The blending controller (paper 01): power-on, a received byte with its lent reply buffer, the bytes before a 0D at
-// once, a tick with its input word, readings. Only power-on and calls can make one. Each entry's answer is the machine's
-// of the crate `machine`, held as specs/Held.antt says; the only premise is that the controller is reachable. Assumes
-// nothing.
+// once, a tick with its input word, readings. Only power-on and calls can make one. Each entry's answer is that of the
+// crate `machine`, held as specs/Held.antt says; the only premise is that the controller is reachable. Assumes nothing.
 ghost use mathlib.Core.List.{map};
 ghost use mathlib.Core.Path.{_≡_};
 ghost use Rattle.laws.specs.Axes.{each};

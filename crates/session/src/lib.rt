@@ -1,6 +1,6 @@
-// What the bench program does with its input (paper 01, "Host end and program"), a byte or a stretch at a time, on values
-// and lent buffers: lines that begin with T run ticks and print the sums of the signed pulses, other lines go in and their
-// replies are printed. The only premise is that the session is one that `new` and the calls after it made.
+// What the bench program does with its input (paper 01, "Host end and program"), a byte or a stretch at a time, on
+// values and lent buffers: lines that begin with T run ticks and print the sums of the signed pulses, other lines go in
+// and their replies are printed. The only premise is that the session is one that `new` and the calls after it made.
 // Assumes nothing.
 ghost use Prim.Native.Nat.{_≤_};
 ghost use mathlib.Core.List.{[], _∷_, _++_};
