@@ -1,7 +1,10 @@
 //! Host end and program: the bench program.
 
-use crate::line::{digit_value, LINE_END};
+use crate::digit::{digit_value, number_written};
+use crate::fields::split;
+use crate::line::{with_line_end, LINE_END};
 use crate::machine::{front, Machine, LEAST_REPLY_BUFFER};
+use crate::streams::each_line;
 use std::io::{self, BufRead, Write};
 
 /// Host end and program: the most ticks of one T line.
@@ -30,20 +33,15 @@ fn input_word(characters: &[u8]) -> Option<u32> {
     if characters.len() != 6 {
         return None;
     }
-    let mut word = 0;
-    for &character in characters {
-        word = word * 16 + digit_value(character)? as u32;
-    }
-    Some(word)
+    number_written(characters, digit_value).map(|word| word as u32)
 }
 
 /// Host end and program: `T n hhhhhh` with two single spaces.
 pub fn read_tick_line(line: &[u8]) -> Option<(u32, u32)> {
-    let parts: Vec<&[u8]> = line.split(|&character| character == b' ').collect();
-    if parts.len() != 3 || parts[0] != b"T" {
-        return None;
+    match split(line)[..] {
+        [b"T", n, word] => Some((tick_count(n)?, input_word(word)?)),
+        _ => None,
     }
-    Some((tick_count(parts[1])?, input_word(parts[2])?))
 }
 
 /// Host end and program: n ticks with one input word; the sums of the signed pulses.
@@ -78,37 +76,25 @@ fn print_reply<W: Write>(reply: &[u8], output: &mut W) -> io::Result<()> {
     Ok(())
 }
 
-/// Host end and program: one byte goes in and its reply is printed.
-fn send_byte<W: Write>(machine: &mut Machine, byte: u8, buf: &mut [u8], output: &mut W) -> io::Result<()> {
-    let answer = machine.byte(byte, buf);
-    print_reply(front(buf, answer.len), output)
-}
-
-/// Host end and program: any other line goes in with 0D for its line feed.
+/// Host end and program: any other line goes in with 0D for its line feed, and its replies are printed.
 fn command_line<W: Write>(machine: &mut Machine, line: &[u8], output: &mut W) -> io::Result<()> {
     let mut buf = [0; LEAST_REPLY_BUFFER];
-    for &byte in line {
-        send_byte(machine, byte, &mut buf, output)?;
+    for byte in with_line_end(line) {
+        let answer = machine.byte(byte, &mut buf);
+        print_reply(front(&buf, answer.len), output)?;
     }
-    send_byte(machine, LINE_END, &mut buf, output)
+    Ok(())
 }
 
 /// Host end and program: switch 0, all lines of the input; the last line may lack its line feed.
-pub fn run<R: BufRead, W: Write>(mut input: R, output: &mut W) -> io::Result<()> {
+pub fn run<R: BufRead, W: Write>(input: R, output: &mut W) -> io::Result<()> {
     let (mut machine, _) = Machine::power_on(0);
-    let mut line = Vec::new();
-    loop {
-        line.clear();
-        if input.read_until(b'\n', &mut line)? == 0 {
-            return output.flush();
-        }
-        if line.last() == Some(&b'\n') {
-            line.pop();
-        }
+    each_line(input, |line| {
         if line.first() == Some(&b'T') {
-            tick_line(&mut machine, &line, output)?;
+            tick_line(&mut machine, line, output)
         } else {
-            command_line(&mut machine, &line, output)?;
+            command_line(&mut machine, line, output)
         }
-    }
+    })?;
+    output.flush()
 }

@@ -1,4 +1,6 @@
-//! The commands of the line protocol (Lines, chapter 7).
+//! The commands of the line protocol (Lines, chapter 7), and the ranges of their figures.
+
+use std::ops::RangeInclusive;
 
 /// Lines: every command that the controller accepts, with its figures.
 #[derive(Clone, Copy, Debug, PartialEq, Eq)]
@@ -68,3 +70,51 @@ pub const LONGEST_DWELL: u32 = 16_383;
 
 /// Lines: the highest polarity setting.
 pub const HIGHEST_POLARITY: u32 = 4_095;
+
+/// Shares: the distances.
+pub const DISTANCES: RangeInclusive<u32> = 0..=LONGEST;
+
+/// Ramp: the speed settings.
+pub const SPEEDS: RangeInclusive<u32> = 1..=FASTEST;
+
+/// Ramp: the slope settings.
+pub const SLOPES: RangeInclusive<u32> = 1..=STEEPEST;
+
+/// Lines: the dwells in ms.
+pub const DWELLS: RangeInclusive<u32> = 0..=LONGEST_DWELL;
+
+/// Lines: the watch settings.
+pub const WATCHES: RangeInclusive<u32> = 0..=3;
+
+/// Lines: the polarity settings.
+pub const POLARITIES: RangeInclusive<u32> = 0..=HIGHEST_POLARITY;
+
+/// Lines of output: the words of 24 bits.
+pub const OUTPUT_WORDS: RangeInclusive<u32> = 0..=0xFFFFFF;
+
+/// Turned away, 10 of a line and 19 of a command value: a figure out of its range.
+pub fn in_range(figure: u32, range: RangeInclusive<u32>, number: u8) -> Result<u32, u8> {
+    if range.contains(&figure) {
+        Ok(figure)
+    } else {
+        Err(number)
+    }
+}
+
+/// Turned away, 10 of a line, 19 of a command value, 20 of an echo: low-ON and high-ON have no other bits.
+pub fn on_setting(bits: u32, number: u8) -> Result<u32, u8> {
+    if bits & !ON_SETTING_BITS == 0 {
+        Ok(bits)
+    } else {
+        Err(number)
+    }
+}
+
+/// Lines: the start that Q 8 names by its second digit, master 0-4, or 8-C for master 0-4 after the dwell.
+pub fn start_named(second: u8) -> Option<Command> {
+    match second {
+        0..=4 => Some(Command::Start { master: second }),
+        8..=0xC => Some(Command::StartAfterDwell { master: second - 8 }),
+        _ => None,
+    }
+}

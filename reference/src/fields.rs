@@ -1,6 +1,7 @@
-//! Stored lists and vectors: lines and their fields.
+//! Stored lists and vectors: lines and their fields, and what a line in any form prints.
 
-use crate::reply::digit_character;
+use crate::digit::{capital_digit_value, digit_character, number_written};
+use crate::streams::each_line;
 use std::io::{self, BufRead, Write};
 
 /// Stored lists and vectors: the most characters of a line.
@@ -9,25 +10,12 @@ pub const MOST_LINE_CHARACTERS: usize = 100;
 /// Stored lists and vectors: what a line in any other form prints.
 pub const OTHER_FORM: &str = "?\n";
 
-/// Stored lists and vectors: h is one hexadecimal digit, a capital.
-fn capital_digit(character: u8) -> Option<u64> {
-    match character {
-        b'0'..=b'9' => Some((character - b'0') as u64),
-        b'A'..=b'F' => Some((character - b'A') as u64 + 10),
-        _ => None,
-    }
-}
-
-/// Stored lists and vectors: a field of exactly so many digits, at most 16.
+/// Stored lists and vectors: a field of exactly so many digits in capitals, at most 16.
 pub fn digits(field: &[u8], count: usize) -> Option<u64> {
     if field.len() != count {
         return None;
     }
-    let mut value = 0;
-    for &character in field {
-        value = value * 16 + capital_digit(character)?;
-    }
-    Some(value)
+    number_written(field, capital_digit_value)
 }
 
 /// Stored lists and vectors: a field `hh`.
@@ -64,7 +52,7 @@ pub fn bytes_text(bytes: &[u8]) -> String {
     text
 }
 
-/// Stored lists and vectors: a letter and fields with one space between two of them.
+/// Stored lists and vectors, and the bench's `T`: a letter and fields with one space between two of them.
 pub fn split(line: &[u8]) -> Vec<&[u8]> {
     line.split(|&character| character == b' ').collect()
 }
@@ -85,21 +73,12 @@ pub fn printed(line: &[u8], obey: impl FnOnce(&[u8]) -> Option<String>) -> Strin
     obey(line).unwrap_or_else(|| OTHER_FORM.to_string())
 }
 
-/// Stored lists and vectors: every line, ended by a line feed, which the last may lack.
+/// Stored lists and vectors: every line, ended by a line feed, which the last may lack, prints its answer.
 pub fn run_lines<R: BufRead, W: Write>(
-    mut input: R,
+    input: R,
     output: &mut W,
     mut answer: impl FnMut(&[u8]) -> String,
 ) -> io::Result<()> {
-    let mut line = Vec::new();
-    loop {
-        line.clear();
-        if input.read_until(b'\n', &mut line)? == 0 {
-            return output.flush();
-        }
-        if line.last() == Some(&b'\n') {
-            line.pop();
-        }
-        output.write_all(answer(&line).as_bytes())?;
-    }
+    each_line(input, |line| output.write_all(answer(line).as_bytes()))?;
+    output.flush()
 }

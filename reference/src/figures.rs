@@ -1,7 +1,8 @@
 //! Host end: bench figures in f64.
 
-use crate::command::{Command, FASTEST, STEEPEST};
+use crate::command::{in_range, Command, SLOPES, SPEEDS};
 use crate::machine::Machine;
+use std::ops::RangeInclusive;
 
 /// Host end: a setting is a speed in hertz or a slope in hertz per ms.
 #[derive(Clone, Copy, Debug, PartialEq)]
@@ -37,22 +38,24 @@ pub fn machine_figures(machine: &Machine) -> Figures {
     figures_of(machine.speed(), machine.slope())
 }
 
+/// Turned away, 21: n units are in range, and their figure is exactly the given one.
+fn exact_units(n: u32, range: RangeInclusive<u32>, exact: f64, figure: f64) -> Result<u32, u8> {
+    if exact != figure {
+        return Err(21);
+    }
+    in_range(n, range, 21)
+}
+
 /// Turned away, 21: a speed figure that is not exactly n/4 for an n of 1 to 1,000,000.
 pub fn speed_units(figure: f64) -> Result<u32, u8> {
     let n = (figure * 4.0).round() as u32;
-    if !(1..=FASTEST).contains(&n) || speed_figure(n) != figure {
-        return Err(21);
-    }
-    Ok(n)
+    exact_units(n, SPEEDS, speed_figure(n), figure)
 }
 
 /// Turned away, 21: a slope figure that is not exactly 5n/4 for an n of 1 to 4,095.
 pub fn slope_units(figure: f64) -> Result<u32, u8> {
     let n = (figure * 4.0 / 5.0).round() as u32;
-    if !(1..=STEEPEST).contains(&n) || slope_figure(n) != figure {
-        return Err(21);
-    }
-    Ok(n)
+    exact_units(n, SLOPES, slope_figure(n), figure)
 }
 
 /// Host end: a setting becomes its P command or refusal 21.

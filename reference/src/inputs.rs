@@ -7,7 +7,7 @@ pub const EMERGENCY_BIT: u32 = 12;
 pub const SENSOR_BIT: u32 = 13;
 
 /// Stops: the input word, 24 bits, with the two settings that make its bits count.
-#[derive(Clone, Copy, Debug, PartialEq, Eq)]
+#[derive(Clone, Copy, Debug, Default, PartialEq, Eq)]
 pub struct Inputs {
     pub word: u32,
     pub low_on: u32,

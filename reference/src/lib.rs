@@ -5,8 +5,10 @@
 #![forbid(unsafe_code)]
 
 pub mod bench;
+pub mod coded;
 pub mod command;
 pub mod digest;
+pub mod digit;
 pub mod fields;
 pub mod figures;
 pub mod host;
@@ -20,6 +22,8 @@ pub mod output;
 pub mod ramp;
 pub mod reply;
 pub mod share;
+pub mod streams;
+mod text;
 pub mod vectors;
 
 pub use command::{Command, CommandValue};

@@ -2,7 +2,7 @@
 
 use crate::digest::mix;
 use crate::fields::{digits, eight_digits, printed, run_lines, split, two_digits};
-use crate::line::LINE_END;
+use crate::line::with_line_end;
 use crate::machine::{ByteAnswer, Machine, TickAnswer, LEAST_REPLY_BUFFER};
 use std::io::{self, BufRead, Write};
 
@@ -114,7 +114,7 @@ pub fn play(switch: u8, calls: &[Call]) -> u32 {
 /// Stored lists: the calls of `L text`, each character and then 0D, each with 120 zero bytes lent.
 fn line_calls(text: &[u8]) -> Vec<Call> {
     let lent = LEAST_REPLY_BUFFER as u8;
-    text.iter().chain(&[LINE_END]).map(|&byte| Call::Byte { byte, lent }).collect()
+    with_line_end(text).map(|byte| Call::Byte { byte, lent }).collect()
 }
 
 /// Stored lists: the text of `L text`, all bytes up to the line feed, at least one.

@@ -1,13 +1,14 @@
 //! The bench program.
 
+mod common;
+use common::programs::printed;
 use reference::bench::{read_tick_line, run};
 use std::io::Write;
 use std::process::{Command, Stdio};
 
+/// What the bench program prints for an input.
 fn bench(input: &[u8]) -> String {
-    let mut output = Vec::new();
-    run(input, &mut output).unwrap();
-    String::from_utf8(output).unwrap()
+    printed(run, input)
 }
 
 #[test]

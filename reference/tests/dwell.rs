@@ -1,48 +1,30 @@
-//! Dwell and stored starts.
+//! Dwell: its length, and what begins, ends and changes it.
 
 mod common;
-use common::{accept, number, on, send, ticks, until_rest};
-use reference::Machine;
-
-/// A move of 3 pulses has just ended; a dwell of 2 ms (500 ticks) runs.
-fn in_dwell() -> Machine {
-    let mut machine = on();
-    accept(&mut machine, &["P0000003", "P08F4240", "P0900FFF", "P0A00002", "Q080"]);
-    until_rest(&mut machine, 0);
-    assert_eq!((machine.travels()[0], machine.status()), (3, 1));
-    machine
-}
+use common::{accept, in_dwell, on, send, status_after, until_rest};
 
 #[test]
 fn length_of_the_dwell() {
     let mut machine = in_dwell();
-    ticks(&mut machine, 499, 0);
-    assert_eq!(machine.status(), 1);
-    ticks(&mut machine, 1, 0);
-    assert_eq!(machine.status(), 0);
+    assert_eq!(status_after(&mut machine, 499, 0), 1);
+    assert_eq!(status_after(&mut machine, 1, 0), 0);
 }
 
 #[test]
 fn a_stopped_move_has_its_dwell_too() {
     let mut machine = on();
     accept(&mut machine, &["P0000003", "P0A00001", "Q080", "Q09"]);
-    machine.tick(0);
-    assert_eq!(machine.status(), 9);
-    ticks(&mut machine, 249, 0);
-    assert_eq!(machine.status(), 9);
-    ticks(&mut machine, 1, 0);
-    assert_eq!(machine.status(), 8);
+    assert_eq!(status_after(&mut machine, 1, 0), 9);
+    assert_eq!(status_after(&mut machine, 249, 0), 9);
+    assert_eq!(status_after(&mut machine, 1, 0), 8);
 }
 
 #[test]
 fn longest_dwell() {
     let mut machine = on();
     accept(&mut machine, &["P0000001", "P0A03FFF", "Q080", "Q09"]);
-    ticks(&mut machine, 1, 0);
-    ticks(&mut machine, 16_383 * 250 - 1, 0);
-    assert_eq!(machine.status() & 1, 1);
-    ticks(&mut machine, 1, 0);
-    assert_eq!(machine.status() & 1, 0);
+    assert_eq!(status_after(&mut machine, 1 + 16_383 * 250 - 1, 0) & 1, 1);
+    assert_eq!(status_after(&mut machine, 1, 0) & 1, 0);
 }
 
 #[test]
@@ -54,52 +36,12 @@ fn without_a_dwell_it_acts_as_a_plain_start() {
 }
 
 #[test]
-fn a_stored_start_begins_in_the_tick_that_ends_the_dwell() {
-    let mut machine = in_dwell();
-    assert_eq!(send(&mut machine, "Q088"), "S0880000");
-    assert_eq!((machine.status(), machine.travels()[0]), (1, 3));
-    ticks(&mut machine, 499, 0);
-    assert_eq!((machine.status(), machine.travels()[0]), (1, 3));
-    let mut plain = in_dwell();
-    ticks(&mut plain, 499, 0);
-    accept(&mut plain, &["Q080"]);
-    ticks(&mut machine, 1, 0);
-    assert_eq!((machine.status(), machine.travels()[0]), (3, 0));
-    ticks(&mut plain, 1, 0);
-    assert_eq!(plain.status(), 3);
-    while plain.status() & 2 != 0 {
-        assert_eq!(plain.tick(0), machine.tick(0));
-        assert_eq!((plain.status(), plain.travels()), (machine.status(), machine.travels()));
-    }
-}
-
-#[test]
-fn distances_of_a_stored_start_are_those_when_it_takes_effect() {
-    let mut machine = in_dwell();
-    accept(&mut machine, &["Q089", "P0100007", "P0000002"]);
-    ticks(&mut machine, 500, 0);
-    assert_eq!(machine.status(), 3);
-    until_rest(&mut machine, 0);
-    assert_eq!(machine.travels(), [2, 7, 0, 0, 0]);
-}
-
-#[test]
-fn a_later_stored_start_replaces_the_first() {
-    let mut machine = in_dwell();
-    accept(&mut machine, &["P0100003", "P0000002", "Q088", "Q089"]);
-    ticks(&mut machine, 500, 0);
-    assert_eq!(machine.status(), 3);
-}
-
-#[test]
 fn order_9_drops_a_stored_start_and_leaves_the_dwell() {
     let mut machine = in_dwell();
     accept(&mut machine, &["Q088", "Q09"]);
     assert_eq!(machine.status(), 1);
-    ticks(&mut machine, 499, 0);
-    assert_eq!(machine.status(), 1);
-    ticks(&mut machine, 500, 0);
-    assert_eq!((machine.status(), machine.travels()[0]), (0, 3));
+    assert_eq!(status_after(&mut machine, 499, 0), 1);
+    assert_eq!((status_after(&mut machine, 500, 0), machine.travels()[0]), (0, 3));
 }
 
 #[test]
@@ -109,18 +51,7 @@ fn a_plain_start_ends_the_dwell_and_drops_a_stored_one() {
     assert_eq!(machine.status(), 3);
     until_rest(&mut machine, 0);
     assert_eq!(machine.status(), 1);
-    ticks(&mut machine, 500, 0);
-    assert_eq!((machine.status(), machine.travels()[0]), (0, 3));
-}
-
-#[test]
-fn a_refused_plain_start_leaves_the_dwell_and_the_stored_one() {
-    let mut machine = in_dwell();
-    accept(&mut machine, &["Q088"]);
-    assert_eq!(number(&mut machine, "Q081"), 14);
-    assert_eq!(machine.status(), 5);
-    ticks(&mut machine, 500, 0);
-    assert_eq!(machine.status(), 7);
+    assert_eq!((status_after(&mut machine, 500, 0), machine.travels()[0]), (0, 3));
 }
 
 #[test]
@@ -128,100 +59,7 @@ fn a_dwell_set_in_a_dwell_counts_from_the_next_end() {
     let mut machine = in_dwell();
     accept(&mut machine, &["P0A00000", "Q088"]);
     assert_eq!(machine.status(), 1);
-    ticks(&mut machine, 500, 0);
-    assert_eq!(machine.status(), 3);
+    assert_eq!(status_after(&mut machine, 500, 0), 3);
     until_rest(&mut machine, 0);
     assert_eq!(machine.status(), 0);
-}
-
-#[test]
-fn bits_3_and_6_are_cleared_when_it_takes_effect() {
-    let mut machine = on();
-    accept(&mut machine, &["P0000003", "P0A00001", "Q080", "Q09"]);
-    ticks(&mut machine, 1, 0);
-    accept(&mut machine, &["Q088"]);
-    assert_eq!(machine.status(), 9);
-    ticks(&mut machine, 249, 0);
-    assert_eq!(machine.status(), 9);
-    ticks(&mut machine, 1, 0);
-    assert_eq!(machine.status(), 3);
-}
-
-/// The stored start of master 0 fails with this number in the tick that ends the dwell.
-fn fails(machine: &mut Machine, word: u32, wanted: u8) {
-    accept(machine, &["Q088"]);
-    ticks(machine, 499, word);
-    let travels = machine.travels();
-    let answer = machine.tick(word);
-    assert_eq!((answer.pulses, answer.number), ([0; 5], wanted));
-    assert_eq!(machine.status() & 3, 0);
-    assert_eq!(machine.travels(), travels);
-    ticks(machine, 600, word);
-    assert_eq!(machine.status() & 3, 0);
-}
-
-#[test]
-fn stored_starts_that_fail() {
-    let mut machine = in_dwell();
-    accept(&mut machine, &["Q0E01000"]);
-    fails(&mut machine, 0x1000, 12);
-    let mut machine = in_dwell();
-    accept(&mut machine, &["Q0E02000"]);
-    fails(&mut machine, 0x2000, 13);
-    let mut machine = in_dwell();
-    accept(&mut machine, &["P0200004"]);
-    fails(&mut machine, 0, 14);
-    assert_eq!(machine.status(), 4);
-    let mut machine = in_dwell();
-    accept(&mut machine, &["P0000000"]);
-    fails(&mut machine, 0, 15);
-    let mut machine = in_dwell();
-    accept(&mut machine, &["Q0E00001"]);
-    fails(&mut machine, 1, 16);
-    let mut machine = in_dwell();
-    accept(&mut machine, &["P007FFFF"]);
-    fails(&mut machine, 0, 17);
-}
-
-#[test]
-fn a_stored_start_uses_the_word_of_its_own_tick() {
-    let mut machine = in_dwell();
-    accept(&mut machine, &["Q0E02000", "Q088"]);
-    ticks(&mut machine, 499, 0x2000);
-    ticks(&mut machine, 1, 0);
-    assert_eq!(machine.status(), 3);
-}
-
-#[test]
-fn emergency_in_the_tick_that_ends_the_dwell_fails_the_start() {
-    let mut machine = in_dwell();
-    accept(&mut machine, &["Q0E01000", "Q088"]);
-    ticks(&mut machine, 499, 0);
-    assert_eq!(machine.tick(0x1000).number, 12);
-    assert_eq!(machine.status(), 0x20);
-}
-
-#[test]
-fn a_start_is_stored_though_it_could_not_begin_now() {
-    let mut machine = in_dwell();
-    accept(&mut machine, &["P0000000"]);
-    assert_eq!(number(&mut machine, "Q08B"), 0);
-    assert_eq!(number(&mut machine, "Q085"), 10);
-    assert_eq!(number(&mut machine, "Q083"), 15);
-}
-
-#[test]
-fn a_stored_start_at_a_full_watch_count_begins_and_stops_in_its_tick() {
-    let mut machine = on();
-    accept(&mut machine, &["P0000003", "P08F4240", "P0900FFF", "P0A03FFF", "P0B1", "Q080"]);
-    until_rest(&mut machine, 0);
-    accept(&mut machine, &["Q088"]);
-    ticks(&mut machine, 16_383 * 250 - 1, 0);
-    assert_eq!((machine.status(), machine.travels()[0]), (1, 3));
-    ticks(&mut machine, 1, 0);
-    assert_eq!((machine.status(), machine.travels()[0]), (9, 0));
-    ticks(&mut machine, 16_383 * 250 - 1, 0);
-    assert_eq!(machine.status(), 9);
-    ticks(&mut machine, 1, 0);
-    assert_eq!(machine.status(), 8);
 }

@@ -1,13 +1,13 @@
 //! Stored lists: forms of the lines, what is gathered, digests worked out by hand.
 
+mod common;
+use common::programs;
 use reference::digest::mix;
 use reference::lists::{play, run, Call, List};
 
 /// What the program prints for an input.
 fn printed(input: &[u8]) -> String {
-    let mut output = Vec::new();
-    run(input, &mut output).unwrap();
-    String::from_utf8(output).unwrap()
+    programs::printed(run, input)
 }
 
 #[test]

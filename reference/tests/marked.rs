@@ -1,8 +1,9 @@
 //! Everything under "Marked".
 
 mod common;
-use common::{accept, number, on, send, ticks};
+use common::{accept, number, on, send, ticks, until_rest};
 use reference::share::share;
+use reference::Machine;
 
 #[test]
 fn share_table() {
@@ -25,10 +26,9 @@ fn share_table_in_a_move() {
         if answer.pulses[2] != 0 {
             seen.push(machine.travels());
         }
-        for axis in 0..5 {
-            let step = (machine.travels()[axis] - before[axis]) as i8;
-            assert_eq!(answer.pulses[axis], if axis == 1 { -step } else { step });
-        }
+        let steps = [0, 1, 2, 3, 4].map(|axis| (machine.travels()[axis] - before[axis]) as i8);
+        // Axis 1 goes minus.
+        assert_eq!(answer.pulses, [steps[0], -steps[1], steps[2], steps[3], steps[4]]);
     }
     assert_eq!(seen, expected);
     assert_eq!(machine.positions(), [2, -3, 5, 5, 0]);
@@ -52,7 +52,7 @@ fn first_pulses() {
 
 #[test]
 fn power_on_slope_is_16_and_speed_10000() {
-    let (machine, number) = reference::Machine::power_on(5);
+    let (machine, number) = Machine::power_on(5);
     assert_eq!((machine.speed(), machine.slope(), machine.switch(), number), (10_000, 16, 5, 0));
     assert_eq!((machine.travels(), machine.positions(), machine.status()), ([0; 5], [0; 5], 0));
 }
@@ -69,20 +69,26 @@ fn speed_limits() {
     assert_eq!(machine.speed(), 1);
 }
 
+/// A fast move of axis 3 alone by this distance line, in so many ticks; the sums of the pulses.
+fn moved_axis_3(distance: &str, n: u32) -> (Machine, [i64; 5]) {
+    let mut machine = on();
+    accept(&mut machine, &[distance, "P0900FFF", "P08F4240", "Q083"]);
+    let sums = ticks(&mut machine, n, 0);
+    (machine, sums)
+}
+
 #[test]
 fn position_minus_one_reads_fffff() {
-    let mut machine = on();
-    accept(&mut machine, &["P0380001", "P0900FFF", "P08F4240", "Q083"]);
-    assert_eq!(ticks(&mut machine, 1_000, 0), [0, 0, 0, -1, 0]);
+    let (mut machine, sums) = moved_axis_3("P0380001", 1_000);
+    assert_eq!(sums, [0, 0, 0, -1, 0]);
     assert_eq!(send(&mut machine, "q03"), "s03FFFFF");
     assert_eq!(send(&mut machine, "Q03"), "S0380001");
 }
 
 #[test]
 fn position_minus_ten_reads_ffff6() {
-    let mut machine = on();
-    accept(&mut machine, &["P038000A", "P0900FFF", "P08F4240", "Q083"]);
-    assert_eq!(ticks(&mut machine, 10_000, 0), [0, 0, 0, -10, 0]);
+    let (mut machine, sums) = moved_axis_3("P038000A", 10_000);
+    assert_eq!(sums, [0, 0, 0, -10, 0]);
     assert_eq!(send(&mut machine, "q03"), "s03FFFF6");
 }
 
@@ -99,6 +105,6 @@ fn manual_example_of_6_3() {
     let mut machine = on();
     let lines = ["P0002710", "P010C350", "P0203A98", "P03004E2", "P0404E20", "P0900FFF", "P08186A0", "Q081"];
     accept(&mut machine, &lines);
-    common::until_rest(&mut machine, 0);
+    until_rest(&mut machine, 0);
     assert_eq!(machine.travels(), [10_000, 50_000, 15_000, 1_250, 20_000]);
 }

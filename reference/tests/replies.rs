@@ -1,7 +1,7 @@
 //! Replies.
 
 mod common;
-use common::{accept, on, send, ticks, under_way, until_rest};
+use common::{accept, on, replies, send, ticks, under_way, until_rest};
 use reference::{front, Machine};
 
 #[test]
@@ -59,32 +59,36 @@ fn front_part() {
 #[test]
 fn p_answers() {
     let mut machine = Machine::power_on(0xF).0;
-    assert_eq!(send(&mut machine, "P00abcde"), "UF000000");
-    assert_eq!(send(&mut machine, "P00abcdeF"), "UF000000F");
-    assert_eq!(send(&mut machine, "P4000001"), "");
-    assert_eq!(send(&mut machine, "P0B0"), "UF000000");
-    assert_eq!(send(&mut machine, "P0B3abcd7"), "UF0000007");
+    let pairs = [
+        ("P00abcde", "UF000000"),
+        ("P00abcdeF", "UF000000F"),
+        ("P4000001", ""),
+        ("P0B0", "UF000000"),
+        ("P0B3abcd7", "UF0000007"),
+    ];
+    replies(&mut machine, &pairs);
 }
 
 #[test]
 fn q_echoes() {
     let mut machine = on();
     accept(&mut machine, &["P0000005"]);
-    assert_eq!(send(&mut machine, "Q0D033ff"), "S0D033FF");
-    assert_eq!(send(&mut machine, "Q0E00000A"), "S0E00000A");
-    assert_eq!(send(&mut machine, "Q0D00000"), "S0D00000");
-    assert_eq!(send(&mut machine, "Q0a"), "S0A00000");
-    assert_eq!(send(&mut machine, "Q0Babc"), "S0BABC00");
-    assert_eq!(send(&mut machine, "Q080fedc3"), "S080FEDC3");
-    assert_eq!(send(&mut machine, "Q09FFFFF0"), "S09FFFFF0");
+    let pairs = [
+        ("Q0D033ff", "S0D033FF"),
+        ("Q0E00000A", "S0E00000A"),
+        ("Q0D00000", "S0D00000"),
+        ("Q0a", "S0A00000"),
+        ("Q0Babc", "S0BABC00"),
+        ("Q080fedc3", "S080FEDC3"),
+        ("Q09FFFFF0", "S09FFFFF0"),
+    ];
+    replies(&mut machine, &pairs);
 }
 
 #[test]
 fn readings_take_any_further_digits() {
-    let mut machine = on();
-    assert_eq!(send(&mut machine, "Q06FFFFF"), "S0600000");
-    assert_eq!(send(&mut machine, "Q04abc"), "S0400000");
-    assert_eq!(send(&mut machine, "q0212345C"), "s0200000C");
+    let pairs = [("Q06FFFFF", "S0600000"), ("Q04abc", "S0400000"), ("q0212345C", "s0200000C")];
+    replies(&mut on(), &pairs);
 }
 
 #[test]
@@ -92,9 +96,7 @@ fn w_answers_the_last_inputs() {
     let mut machine = on();
     assert_eq!(send(&mut machine, "W0"), "R0000000");
     ticks(&mut machine, 1, 0xBB8001);
-    assert_eq!(send(&mut machine, "W0abcdef"), "R0BB8001");
-    assert_eq!(send(&mut machine, "W0ABCDEF9"), "R0BB80019");
-    assert_eq!(send(&mut machine, "W4000000"), "");
+    replies(&mut machine, &[("W0abcdef", "R0BB8001"), ("W0ABCDEF9", "R0BB80019"), ("W4000000", "")]);
     assert_eq!(machine.tick(0).words, [0, 0]);
     assert_eq!(send(&mut machine, "W0"), "R0000000");
 }
@@ -105,12 +107,10 @@ fn travel_has_the_latest_moves_minus_bit() {
     accept(&mut machine, &["P0080005", "P0180000"]);
     assert_eq!(send(&mut machine, "Q00"), "S0000000");
     accept(&mut machine, &["Q080"]);
-    assert_eq!(send(&mut machine, "Q00"), "S0080000");
-    assert_eq!(send(&mut machine, "Q01"), "S0180000");
+    replies(&mut machine, &[("Q00", "S0080000"), ("Q01", "S0180000")]);
     until_rest(&mut machine, 0);
     accept(&mut machine, &["P0000001"]);
-    assert_eq!(send(&mut machine, "Q00"), "S0080005");
-    assert_eq!(send(&mut machine, "q00"), "s00FFFFB");
+    replies(&mut machine, &[("Q00", "S0080005"), ("q00", "s00FFFFB")]);
 }
 
 #[test]
@@ -138,7 +138,5 @@ fn a_line_may_take_any_time() {
 
 #[test]
 fn after_a_refused_line_the_next_is_read_afresh() {
-    let mut machine = on();
-    assert_eq!(send(&mut machine, "P0000000000000000000000"), "U0000004");
-    assert_eq!(send(&mut machine, "Q06"), "S0600000");
+    replies(&mut on(), &[("P0000000000000000000000", "U0000004"), ("Q06", "S0600000")]);
 }

@@ -1,19 +1,8 @@
-//! Every stop cause, its status bits and the counters afterwards.
+//! Stops by order, sensor, emergency and watch: status bits and the counters afterwards.
 
 mod common;
-use common::{accept, assert_shares, number, on, send, ticks, under_way, until_rest};
-use reference::Machine;
-
-const DISTANCES: [u32; 5] = [1_000, 400, 0, 0, 0];
-
-/// The move has stopped short with true counters.
-fn stopped_short(machine: &Machine) {
-    assert_eq!(machine.status() & 3, 0);
-    let travels = machine.travels();
-    assert!(travels[0] > 0 && travels[0] < 1_000);
-    assert_shares(travels, DISTANCES, 0);
-    assert_eq!(machine.positions(), [travels[0] as i32, -(travels[1] as i32), 0, 0, 0]);
-}
+use common::stopped::{stop_by_inputs, stopped_short, DISTANCES};
+use common::{accept, assert_shares, number, on, send, status_after, ticks, under_way, until_rest};
 
 #[test]
 fn stop_by_order() {
@@ -55,70 +44,6 @@ fn ramp_down_of_a_stop() {
     assert_eq!(until_rest(&mut machine, 0), 100);
 }
 
-/// A setting line, the word while running and the word that stops.
-fn stop_by_inputs(setting: &str, free: u32, stopping: u32, bits_under_way: u32, bits_at_rest: u32) -> Machine {
-    let mut machine = on();
-    accept(&mut machine, &["P00003E8", "P0180190", "P08F4240", "P0900FFF"]);
-    machine.tick(free);
-    accept(&mut machine, &[setting, "Q080"]);
-    ticks(&mut machine, 500, free);
-    assert_eq!(machine.status(), 3);
-    ticks(&mut machine, 1, stopping);
-    assert_eq!(machine.status(), bits_under_way);
-    until_rest(&mut machine, free);
-    assert_eq!(machine.status(), bits_at_rest);
-    stopped_short(&machine);
-    machine
-}
-
-#[test]
-fn stop_by_limit() {
-    // Axis 0 goes plus and axis 1 minus.
-    stop_by_inputs("Q0D00002", 0x000002, 0, 0x1B, 8);
-    stop_by_inputs("Q0E00001", 0, 0x000001, 0x1B, 8);
-    stop_by_inputs("Q0D00004", 0x000004, 0, 0x1B, 8);
-    stop_by_inputs("Q0E00008", 0, 0x000008, 0x1B, 8);
-}
-
-#[test]
-fn limits_of_the_other_direction_do_not_stop() {
-    let settings = [("Q0D00001", 0), ("Q0E00002", 0xFFFFFF), ("Q0D00008", 0), ("Q0E00004", 0xFFFFFF)];
-    for (setting, word) in settings {
-        let mut machine = under_way(word);
-        accept(&mut machine, &[setting]);
-        until_rest(&mut machine, word);
-        assert_eq!((machine.travels(), machine.status()), (DISTANCES, 0));
-    }
-}
-
-#[test]
-fn every_limit_bit_blocks_its_axis_and_direction() {
-    for axis in 0..5u32 {
-        for minus in [false, true] {
-            for bit in 0..10u32 {
-                for high_on in [false, true] {
-                    for level in [false, true] {
-                        let mut machine = on();
-                        let distance = format!("P0{axis}{}0001", if minus { 8 } else { 0 });
-                        let setting = format!("Q0{}{:05X}", if high_on { 'E' } else { 'D' }, 1 << bit);
-                        accept(&mut machine, &[&distance, &setting]);
-                        machine.tick(if level { 1 << bit } else { 0xFFFFFF & !(1 << bit) });
-                        let own_bit = match (high_on, minus) {
-                            (false, true) | (true, false) => 2 * axis,
-                            (false, false) | (true, true) => 2 * axis + 1,
-                        };
-                        let blocked = bit == own_bit && level == high_on;
-                        let status = if blocked { 0x10 } else { 0 };
-                        assert_eq!(machine.status(), status, "{distance} {setting} {level}");
-                        let start = format!("Q08{axis}");
-                        assert_eq!(number(&mut machine, &start), if blocked { 16 } else { 0 });
-                    }
-                }
-            }
-        }
-    }
-}
-
 #[test]
 fn stop_by_sensor() {
     let mut machine = stop_by_inputs("Q0D02000", 0x002000, 0, 0x43, 0x40);
@@ -140,10 +65,8 @@ fn stop_by_emergency() {
 fn stop_by_watch() {
     let mut machine = on();
     accept(&mut machine, &["P007FFFF", "P0800004", "P0B1", "Q080"]);
-    ticks(&mut machine, 999_999, 0);
-    assert_eq!(machine.status(), 3);
-    ticks(&mut machine, 1, 0);
-    assert_eq!(machine.status(), 0x0B);
+    assert_eq!(status_after(&mut machine, 999_999, 0), 3);
+    assert_eq!(status_after(&mut machine, 1, 0), 0x0B);
     until_rest(&mut machine, 0);
     assert_eq!(machine.status(), 8);
 }
@@ -163,8 +86,7 @@ fn a_second_cause_sets_its_bit_too() {
     let mut machine = under_way(0);
     accept(&mut machine, &["Q0E02000", "Q09"]);
     assert_eq!(machine.status(), 0x0B);
-    ticks(&mut machine, 1, 0x2000);
-    assert_eq!(machine.status(), 0x4B);
+    assert_eq!(status_after(&mut machine, 1, 0x2000), 0x4B);
     until_rest(&mut machine, 0);
     assert_eq!(machine.status(), 0x48);
 }

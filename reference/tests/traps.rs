@@ -1,7 +1,7 @@
 //! Each trap that the paper names.
 
 mod common;
-use common::{accept, number, on, send, ticks, under_way, until_rest};
+use common::{accept, number, on, send, status_after, ticks, under_way, until_rest};
 use reference::share::share;
 
 #[test]
@@ -33,8 +33,7 @@ fn an_idle_axis_is_never_blocked() {
     accept(&mut machine, &["P0000005", "P0180000", "P0200000", "Q0D003FC", "Q080"]);
     assert_eq!(machine.status(), 3);
     accept(&mut machine, &["P08F4240"]);
-    ticks(&mut machine, 1, 0);
-    assert_eq!(machine.status(), 3);
+    assert_eq!(status_after(&mut machine, 1, 0), 3);
     until_rest(&mut machine, 0);
     assert_eq!((machine.travels()[0], machine.status()), (5, 0));
 }
@@ -43,12 +42,10 @@ fn an_idle_axis_is_never_blocked() {
 fn emergency_stays_held_while_its_input_is_active() {
     let mut machine = on();
     accept(&mut machine, &["P0000005", "Q0E01000"]);
-    ticks(&mut machine, 1, 0x1000);
-    assert_eq!(machine.status(), 0x20);
+    assert_eq!(status_after(&mut machine, 1, 0x1000), 0x20);
     accept(&mut machine, &["Q0B"]);
     assert_eq!(machine.status(), 0x20);
-    ticks(&mut machine, 1, 0);
-    assert_eq!(machine.status(), 0x20);
+    assert_eq!(status_after(&mut machine, 1, 0), 0x20);
     assert_eq!(number(&mut machine, "Q080"), 12);
     accept(&mut machine, &["Q0B"]);
     assert_eq!(machine.status(), 0);
@@ -64,8 +61,7 @@ fn a_disabled_emergency_input_frees_the_hold_at_a_reset() {
     assert_eq!(machine.status(), 0x20);
     accept(&mut machine, &["Q0B"]);
     assert_eq!(machine.status(), 0);
-    ticks(&mut machine, 1, 0x1000);
-    assert_eq!(machine.status(), 0);
+    assert_eq!(status_after(&mut machine, 1, 0x1000), 0);
 }
 
 #[test]

@@ -1,5 +1,8 @@
 //! Stored vectors of the host end: lines and what they print, worked out by hand.
 
+mod common;
+use common::programs::printed;
+use reference::digest::mix;
 use reference::vectors::{answer, run};
 
 /// Lines and what each prints, without the line feeds.
@@ -83,7 +86,6 @@ fn figures() {
 /// D A by whole numbers alone: 5n, n, 0 for each setting and then 0, 0, 21; 4,096 is refused both times.
 #[test]
 fn every_slope() {
-    let mix = reference::digest::mix;
     let settings = (1..=4_095).fold(0, |digest, n| mix(mix(digest, 5 * n, n, 0), 0, 0, 21));
     let digest = mix(mix(settings, 5 * 4_096, 0, 21), 0, 0, 21);
     prints(&[("D A", &format!("{digest:08X}"))]);
@@ -92,7 +94,6 @@ fn every_slope() {
 /// D V by whole numbers alone: n, n, 0 for each setting and then 0, 0, 21; 1,000,001 is refused both times.
 #[test]
 fn every_speed() {
-    let mix = reference::digest::mix;
     let settings = (1..=1_000_000).fold(0, |digest, n| mix(mix(digest, n, n, 0), 0, 0, 21));
     let digest = mix(mix(settings, 1_000_001, 0, 21), 0, 0, 21);
     prints(&[("D V", &format!("{digest:08X}"))]);
@@ -127,7 +128,5 @@ fn lines_in_other_forms() {
 
 #[test]
 fn the_last_line_may_lack_its_line_feed() {
-    let mut output = Vec::new();
-    run(&b"D\n\n# words\nU V 00000001"[..], &mut output).unwrap();
-    assert_eq!(output, b"?\n0000000000000001 =\n");
+    assert_eq!(printed(run, b"D\n\n# words\nU V 00000001"), "?\n0000000000000001 =\n");
 }

@@ -1,7 +1,7 @@
 //! Watch.
 
 mod common;
-use common::{accept, line, number, on, ticks};
+use common::{accept, line, number, on, status_after, ticks};
 use reference::Machine;
 
 const FULL: u32 = 1_000_000;
@@ -37,10 +37,8 @@ fn watch_bit_0_alone_stops_moves() {
     for (watch, stopped) in [("P0B0", false), ("P0B1", true), ("P0B2", false), ("P0B3", true)] {
         let mut machine = on();
         accept(&mut machine, &["P007FFFF", "P0800001", watch, "Q080"]);
-        ticks(&mut machine, FULL - 1, 0);
-        assert_eq!(machine.status(), 3);
-        ticks(&mut machine, 1, 0);
-        assert_eq!(machine.status() & 8 != 0, stopped);
+        assert_eq!(status_after(&mut machine, FULL - 1, 0), 3);
+        assert_eq!(status_after(&mut machine, 1, 0) & 8 != 0, stopped);
     }
 }
 
@@ -97,8 +95,6 @@ fn number_11_zeroes_the_count() {
     accept(&mut machine, &["P007FFFF", "P0800001", "P0B1", "Q080"]);
     ticks(&mut machine, FULL - 1, 0);
     assert_eq!(number(&mut machine, "P0000001"), 11);
-    ticks(&mut machine, FULL - 1, 0);
-    assert_eq!(machine.status(), 3);
-    ticks(&mut machine, 1, 0);
-    assert_eq!(machine.status() & 8, 8);
+    assert_eq!(status_after(&mut machine, FULL - 1, 0), 3);
+    assert_eq!(status_after(&mut machine, 1, 0) & 8, 8);
 }

@@ -1,9 +1,5 @@
 //! Bench program: standard input to standard output, switch 0.
 
-use std::io::{self, BufReader, BufWriter};
-
-fn main() -> io::Result<()> {
-    let input = BufReader::with_capacity(1 << 16, io::stdin().lock());
-    let mut output = BufWriter::with_capacity(1 << 16, io::stdout().lock());
-    reference::bench::run(input, &mut output)
+fn main() -> std::io::Result<()> {
+    reference::streams::on_standard_streams(reference::bench::run)
 }

@@ -1,4 +1,11 @@
+//! What the tests share: a controller, lines and ticks that go in, and what must hold of the answers.
+
 #![allow(dead_code)]
+
+pub mod programs;
+pub mod refused;
+pub mod sequence;
+pub mod stopped;
 
 use reference::{front, Machine};
 
@@ -26,6 +33,13 @@ pub fn send(machine: &mut Machine, text: &str) -> String {
     line(machine, text.as_bytes()).0
 }
 
+/// Lines and the reply that each must have.
+pub fn replies(machine: &mut Machine, pairs: &[(&str, &str)]) {
+    for (text, reply) in pairs {
+        assert_eq!(send(machine, text), *reply, "{text}");
+    }
+}
+
 /// The number of one line.
 pub fn number(machine: &mut Machine, text: &str) -> u8 {
     line(machine, text.as_bytes()).1
@@ -44,11 +58,17 @@ pub fn ticks(machine: &mut Machine, n: u32, word: u32) -> [i64; 5] {
     for _ in 0..n {
         let answer = machine.tick(word);
         assert_eq!(answer.number, 0);
-        for axis in 0..5 {
-            sums[axis] += answer.pulses[axis] as i64;
+        for (sum, pulse) in sums.iter_mut().zip(answer.pulses) {
+            *sum += pulse as i64;
         }
     }
     sums
+}
+
+/// The status after n ticks with one word; no waiting start may fail.
+pub fn status_after(machine: &mut Machine, n: u32, word: u32) -> u32 {
+    ticks(machine, n, word);
+    machine.status()
 }
 
 /// Ticks until the move has ended; how many ticks that took.
@@ -66,8 +86,16 @@ pub fn until_rest(machine: &mut Machine, word: u32) -> u32 {
 pub fn under_way(word: u32) -> Machine {
     let mut machine = on();
     accept(&mut machine, &["P00003E8", "P0180190", "P08F4240", "P0900FFF", "Q080"]);
-    ticks(&mut machine, 500, word);
-    assert_eq!(machine.status() & 2, 2);
+    assert_eq!(status_after(&mut machine, 500, word) & 2, 2);
+    machine
+}
+
+/// A move of 3 pulses has just ended; a dwell of 2 ms (500 ticks) runs.
+pub fn in_dwell() -> Machine {
+    let mut machine = on();
+    accept(&mut machine, &["P0000003", "P08F4240", "P0900FFF", "P0A00002", "Q080"]);
+    until_rest(&mut machine, 0);
+    assert_eq!((machine.travels()[0], machine.status()), (3, 1));
     machine
 }
 
@@ -75,9 +103,8 @@ pub fn under_way(word: u32) -> Machine {
 pub fn assert_shares(travels: [u32; 5], distances: [u32; 5], master: usize) {
     let m = travels[master] as u64;
     let master_distance = distances[master] as u64;
-    for axis in 0..5 {
-        let t = travels[axis] as u64;
-        let d = distances[axis] as u64;
+    for (axis, (&travel, &distance)) in travels.iter().zip(&distances).enumerate() {
+        let (t, d) = (travel as u64, distance as u64);
         assert!(t * master_distance <= m * d, "axis {axis} ahead");
         assert!(m * d < (t + 1) * master_distance, "axis {axis} behind");
     }

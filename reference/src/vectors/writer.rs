@@ -1,0 +1,93 @@
+//! Stored vectors, W: a command value by its numbers, and what the writer leaves in the line buffer.
+
+use crate::command::{Command, CommandValue};
+use crate::digit::capital_digit_value;
+use crate::fields::{bytes_text, eight_digits, two_digits, zero_or_one};
+use crate::host::write_line;
+
+/// Stored vectors, W: the longest line buffer.
+pub const LONGEST_LINE_BUFFER: u8 = 0x40;
+
+/// Stored vectors, W: each byte of the buffer before.
+pub const BYTE_BEFORE: u8 = 0x5A;
+
+/// Host end: a figure that is the writer's value for a character that is no identification; it has no line.
+const NO_IDENTIFICATION_VALUE: u8 = 16;
+
+/// Stored vectors: an identification is `--` where there is none, else the two digits of its character.
+fn identification_field(field: &[u8]) -> Option<Option<u8>> {
+    if field == b"--" {
+        return Some(None);
+    }
+    two_digits(field).map(Some)
+}
+
+/// Host end: the writer takes 0 to 15; a character that is not 0-9 or A-F has no line (19).
+fn writer_identification(character: u8) -> u8 {
+    capital_digit_value(character).unwrap_or(NO_IDENTIFICATION_VALUE)
+}
+
+/// Stored vectors, commands: the start of a master, plain or after the dwell.
+fn start_command(master: u8, after_dwell: bool) -> Command {
+    if after_dwell {
+        Command::StartAfterDwell { master }
+    } else {
+        Command::Start { master }
+    }
+}
+
+/// Stored vectors, commands: the command of a number with what it uses of axis, flag and value.
+fn command_of_number(number: u8, axis: u8, flag: bool, value: u32) -> Option<Command> {
+    let command = match number {
+        0x00 => Command::Distance { axis, minus: flag, pulses: value },
+        0x01 => Command::Speed(value),
+        0x02 => Command::Slope(value),
+        0x03 => Command::Dwell(value),
+        0x04 => Command::Watch(value & 0xFF),
+        0x05 => Command::Polarity(value),
+        0x06 => Command::ReadTravel { axis },
+        0x07 => Command::ReadStatus,
+        0x08 => start_command(axis, flag),
+        0x09 => Command::Stop,
+        0x0A => Command::ClearWrongMaster,
+        0x0B => Command::ResetPositions,
+        0x0C => Command::LowOn(value),
+        0x0D => Command::HighOn(value),
+        0x0E => Command::ReadPosition { axis },
+        0x0F => Command::ReadEverything,
+        0x10 => Command::ReadInputs,
+        0x11 => Command::Outputs(value),
+        _ => return None,
+    };
+    Some(command)
+}
+
+/// Stored vectors, W: number, length of the line, each byte of the whole buffer.
+fn written_text(number: u8, length: usize, buf: &[u8]) -> String {
+    if buf.is_empty() {
+        return format!("{number:02} {length:02X}\n");
+    }
+    format!("{number:02} {length:02X} {}\n", bytes_text(buf))
+}
+
+/// Stored vectors, W: the writer is run with a buffer of so many bytes.
+fn run_writer(length: u8, value: &CommandValue) -> String {
+    let mut buf = vec![BYTE_BEFORE; length as usize];
+    match write_line(value, &mut buf) {
+        Ok(written) => written_text(0, written, &buf),
+        Err(number) => written_text(number, 0, &buf),
+    }
+}
+
+/// Stored vectors, W: `W hh h hh hh h hhhhhhhh ii`.
+pub(super) fn writer_line(fields: &[&[u8]]) -> Option<String> {
+    let [length, silent, number, axis, flag, value, identification] = fields else {
+        return None;
+    };
+    let length = two_digits(length).filter(|&length| length <= LONGEST_LINE_BUFFER)?;
+    let silent = zero_or_one(silent)?;
+    let (number, axis) = (two_digits(number)?, two_digits(axis)?);
+    let command = command_of_number(number, axis, zero_or_one(flag)?, eight_digits(value)?)?;
+    let identification = identification_field(identification)?.map(writer_identification);
+    Some(run_writer(length, &CommandValue { command, silent, identification }))
+}
