@@ -1,6 +1,6 @@
 //! Counters of the host end's lines and of what they were answered.
 
-use crate::coverage::{grouped, Counted};
+use crate::counted::{listed, Counted};
 use std::collections::BTreeMap;
 use std::fmt;
 
@@ -42,14 +42,13 @@ impl Counted for Answers {
     }
 }
 
-fn listed<K: fmt::Display>(counts: &BTreeMap<K, u64>) -> String {
-    let all: Vec<String> = counts.iter().map(|(key, count)| format!("{key} {}", grouped(*count))).collect();
-    all.join(", ")
+fn in_words<K: fmt::Display>(counts: &BTreeMap<K, u64>) -> String {
+    listed(counts.iter().map(|(key, &count)| (key, count)))
 }
 
 impl fmt::Display for Answers {
     fn fmt(&self, f: &mut fmt::Formatter) -> fmt::Result {
-        writeln!(f, "  lines: {}", listed(&self.letters))?;
-        writeln!(f, "  numbers of W, B and F, and question marks: {}", listed(&self.numbers))
+        writeln!(f, "  lines: {}", in_words(&self.letters))?;
+        writeln!(f, "  numbers of W, B and F, and question marks: {}", in_words(&self.numbers))
     }
 }

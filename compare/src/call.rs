@@ -5,6 +5,9 @@ use std::fmt;
 /// The bytes of one call.
 pub const CALL_BYTES: usize = 9;
 
+/// The longest buffer that a call can lend.
+pub const LONGEST_LENT: usize = 255;
+
 /// One call: `count` ticks with the input word `value`, a received byte with a lent buffer, or the readings.
 #[derive(Clone, Copy, Debug, PartialEq, Eq)]
 pub struct Call {

@@ -6,7 +6,9 @@
 
 pub mod answers;
 pub mod bench;
+pub mod bits;
 pub mod call;
+pub mod counted;
 pub mod coverage;
 pub mod digest;
 pub mod hosted;
@@ -24,4 +26,5 @@ pub mod shrink;
 pub mod speed;
 #[path = "../../include/temixohuel.rs"]
 pub mod temixohuel;
+pub mod touch;
 pub mod vector;

@@ -5,15 +5,12 @@ use crate::call::{Call, BYTE, TICKS};
 use crate::coverage::Coverage;
 use crate::operator::Operator;
 use crate::played::{Played, Readings};
-use crate::random::Random;
+use crate::random::{part, Random};
 use crate::temixohuel::Controller;
 use reference::{ByteAnswer, Machine, TickAnswer};
 use std::fmt::{self, Write};
 use std::fs;
 use std::path::Path;
-
-/// The part's place in the random numbers of a seed.
-const PART: u64 = 2;
 
 /// One list of a seed with its switch and its ticks.
 #[derive(Clone, Copy, Debug)]
@@ -26,7 +23,7 @@ pub struct List {
 
 /// Each seed's first 256 lists are short and take every switch once; later ones have mostly 0 to 15 and any length.
 pub fn plan(seed: u64, index: u64) -> List {
-    let mut random = Random::of_item(seed, PART, index);
+    let mut random = Random::of_item(seed, part::LIST, index);
     if index < 256 {
         return List { seed, index, switch: index as u8, ticks: 12_000 };
     }
@@ -37,7 +34,7 @@ pub fn plan(seed: u64, index: u64) -> List {
 
 /// The calls of a list and what they meet.
 pub fn calls_of(list: List) -> (Vec<Call>, Coverage) {
-    let random = Random::of_item(list.seed, PART + 1, list.index);
+    let random = Random::of_item(list.seed, part::CALLS, list.index);
     let mut bench = Called::new(list.switch, list.ticks);
     Operator::new(random).work(&mut bench);
     bench.finish()

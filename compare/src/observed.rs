@@ -1,22 +1,9 @@
 //! A reference machine whose answers and status are counted.
 
+use crate::bits::{BLOCKED, BY_SENSOR, HELD, MOVING, STOPPED};
+use crate::call::LONGEST_LENT;
 use crate::coverage::{Cause, Coverage};
-use reference::{ByteAnswer, Machine, TickAnswer};
-
-/// Status bit 0: a move or a dwell runs.
-pub const BUSY: u32 = 1 << 0;
-/// Status bit 1: a move runs.
-pub const MOVING: u32 = 1 << 1;
-/// Status bit 2: a start named a wrong master.
-pub const WRONG_MASTER: u32 = 1 << 2;
-/// Status bit 3: stopped by order, limit or watch.
-pub const STOPPED: u32 = 1 << 3;
-/// Status bit 4: an axis is blocked.
-pub const BLOCKED: u32 = 1 << 4;
-/// Status bit 5: emergency is held.
-pub const HELD: u32 = 1 << 5;
-/// Status bit 6: stopped by the sensor.
-pub const BY_SENSOR: u32 = 1 << 6;
+use reference::{ByteAnswer, Machine};
 
 /// A reference machine whose answers are counted.
 pub struct Observed {
@@ -32,7 +19,7 @@ impl Observed {
         let (machine, number) = Machine::power_on(switch);
         let mut seen = Coverage { items: 1, ..Coverage::default() };
         seen.number(number);
-        seen.switches[switch as usize] = true;
+        seen.switches.mark(switch);
         let status = machine.status();
         Observed { machine, seen, status, stop_begun: false }
     }
@@ -41,25 +28,24 @@ impl Observed {
         &self.machine
     }
 
-    pub fn seen(&self) -> &Coverage {
-        &self.seen
+    /// What the machine has met.
+    pub fn into_seen(self) -> Coverage {
+        self.seen
     }
 
-    /// A call of the list, of whatever kind.
-    pub fn count_call(&mut self) {
+    /// A call for the readings.
+    pub fn readings(&mut self) {
         self.seen.calls += 1;
-    }
-
-    pub fn count_readings(&mut self) {
         self.seen.readings += 1;
     }
 
-    /// A received byte with its lent buffer.
+    /// A call with a received byte and its lent buffer.
     pub fn byte(&mut self, byte: u8, lent: &mut [u8]) -> ByteAnswer {
         let answer = self.machine.byte(byte, lent);
+        self.seen.calls += 1;
         self.seen.bytes += 1;
         self.seen.reply_bytes += answer.len as u64;
-        self.seen.lent[lent.len().min(255)] = true;
+        self.seen.lent.mark(lent.len().min(LONGEST_LENT) as u8);
         self.seen.number(answer.number);
         if byte == reference::line::LINE_END && answer.number != 2 {
             self.seen.lines += 1;
@@ -68,21 +54,27 @@ impl Observed {
         answer
     }
 
-    /// A tick with its input word.
-    pub fn tick(&mut self, word: u32) -> TickAnswer {
+    /// A call of ticks with one input word.
+    pub fn ticks(&mut self, count: u32, word: u32) {
+        self.seen.calls += 1;
+        for _ in 0..count {
+            self.tick(word);
+        }
+    }
+
+    fn tick(&mut self, word: u32) {
         let before = if self.status & MOVING == 0 { self.machine.travels() } else { [0; 5] };
         let answer = self.machine.tick(word);
         self.seen.ticks += 1;
-        self.seen.pulses += answer.pulses.iter().any(|&pulse| pulse != 0) as u64;
+        self.seen.moves.pulses += answer.pulses.iter().any(|&pulse| pulse != 0) as u64;
         if answer.number != 0 {
             self.seen.number(answer.number);
         }
         self.follow_tick(before);
-        answer
     }
 
     fn begin_move(&mut self) {
-        self.seen.starts += 1;
+        self.seen.moves.starts += 1;
         self.stop_begun = false;
     }
 
@@ -92,7 +84,7 @@ impl Observed {
             self.begin_move();
         }
         if self.status & !before & STOPPED != 0 {
-            self.seen.cause(Cause::Order);
+            self.seen.moves.cause(Cause::Order);
             self.stop_begun = true;
         }
     }
@@ -108,7 +100,7 @@ impl Observed {
         let started = self.stored_start(before, travels);
         if started {
             self.begin_move();
-            self.seen.stored_starts += 1;
+            self.seen.moves.stored_starts += 1;
         }
         if before & MOVING == 0 && !started {
             return;
@@ -123,22 +115,22 @@ impl Observed {
     fn follow_causes(&mut self, before: u32) {
         let risen = self.status & !before;
         if risen & STOPPED != 0 {
-            self.seen.cause(if self.status & BLOCKED != 0 { Cause::Limit } else { Cause::Watch });
+            self.seen.moves.cause(if self.status & BLOCKED != 0 { Cause::Limit } else { Cause::Watch });
         }
         if risen & HELD != 0 {
-            self.seen.cause(Cause::Emergency);
+            self.seen.moves.cause(Cause::Emergency);
         }
         if risen & BY_SENSOR != 0 {
-            self.seen.cause(Cause::Sensor);
+            self.seen.moves.cause(Cause::Sensor);
         }
         self.stop_begun |= self.status & (STOPPED | HELD | BY_SENSOR) != 0;
     }
 
     fn end_move(&mut self) {
         if self.stop_begun {
-            self.seen.stopped += 1;
+            self.seen.moves.stopped += 1;
         } else {
-            self.seen.whole += 1;
+            self.seen.moves.whole += 1;
         }
     }
 }

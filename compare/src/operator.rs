@@ -2,10 +2,10 @@
 //! cause come at random pulses.
 
 use crate::bench::Bench;
+use crate::bits::{BUSY, EMERGENCY, LIMITS, MOVING, SENSOR};
 use crate::line::{self, Order};
-use crate::observed::{BUSY, MOVING};
 use crate::random::Random;
-use reference::command::{FASTEST, LONGEST, ON_SETTING_BITS, STEEPEST};
+use reference::command::{FASTEST, HIGHEST_POLARITY, LONGEST, ON_SETTING_BITS, STEEPEST};
 use reference::machine::INPUT_WORD_END;
 
 mod at_rest;
@@ -16,10 +16,9 @@ mod under_way;
 
 const AXES: usize = 5;
 
-/// Input bits of the limits, the emergency and the sensor.
-const LIMITS: u32 = 0x3FF;
-const EMERGENCY: u32 = 1 << 12;
-const SENSOR: u32 = 1 << 13;
+fn any_axis(random: &mut Random) -> usize {
+    random.below(AXES as u32) as usize
+}
 
 /// How long a piece of work this operator likes, and what it believes the settings to be.
 pub struct Operator {
@@ -103,14 +102,14 @@ impl Operator {
     fn any_order(&mut self) -> Order {
         let random = &mut self.random;
         match random.below(14) {
-            0..=2 => line::distance(random.below(5) as usize, random.chance(50), random.spread(LONGEST)),
+            0..=2 => line::distance(any_axis(random), random.chance(50), random.spread(LONGEST)),
             3 => line::speed(random.spread(FASTEST)),
             4 => line::slope(random.spread(STEEPEST)),
             5 => line::dwell(random.below(20)),
             6 => line::watch(random.below(4)),
-            7 => line::polarity(random.below(4_096)),
-            8 => line::start(random.below(5) as usize),
-            9 => line::start_after_dwell(random.below(5) as usize),
+            7 => line::polarity(random.below(HIGHEST_POLARITY + 1)),
+            8 => line::start(any_axis(random)),
+            9 => line::start_after_dwell(any_axis(random)),
             10 => line::clear_wrong_master(),
             11 => line::outputs(random.below(INPUT_WORD_END)),
             _ => line::reading(random),
@@ -125,15 +124,15 @@ impl Operator {
         (free | self.low_on) & !self.high_on
     }
 
-    /// A calm word with the given inputs acting, where a setting has them.
-    fn alarm_word(&mut self, inputs: u32) -> u32 {
-        let word = self.calm_word();
-        (word & !(self.low_on & inputs)) | (self.high_on & inputs)
-    }
-
     fn run_calm<B: Bench>(&mut self, bench: &mut B, count: u32) {
         let word = self.calm_word();
         bench.run(count, word);
+    }
+
+    /// Runs 1 to `most` ticks under a calm word.
+    fn run_some<B: Bench>(&mut self, bench: &mut B, most: u32) {
+        let count = self.random.spread(most);
+        self.run_calm(bench, count);
     }
 
     /// An emergency, a sensor, a limit, or several of them.
@@ -141,5 +140,12 @@ impl Operator {
         let limit = 1 << self.random.below(10);
         let several = self.random.pick(&[LIMITS, ON_SETTING_BITS, EMERGENCY | SENSOR | limit]);
         self.random.pick(&[EMERGENCY, SENSOR, SENSOR, limit, limit, several])
+    }
+
+    /// A calm word with some inputs acting, where a setting has them.
+    fn alarm_word(&mut self) -> u32 {
+        let inputs = self.some_inputs();
+        let word = self.calm_word();
+        (word & !(self.low_on & inputs)) | (self.high_on & inputs)
     }
 }

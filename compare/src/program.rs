@@ -1,8 +1,17 @@
-//! A proved program of the repository on a text.
+//! A program on a text: a proved one of the repository, or one of the reference.
 
 use std::fs::{self, File};
+use std::io;
 use std::path::{Path, PathBuf};
 use std::process::Command;
+
+/// The proved bench program, the proved host end and the folder of working files, from the root of the repository.
+pub const BENCH: &str = "target/bin/bench";
+pub const HOST: &str = "target/bin/vectors";
+pub const FOLDER: &str = "target/compare";
+
+/// Said where an output has no such line.
+pub const END_OF_OUTPUT: &str = "(end of output)";
 
 /// Where the proved programs stand (`host` runs the host end) and where working files go.
 #[derive(Clone, Debug)]
@@ -10,6 +19,11 @@ pub struct Places {
     pub bench: PathBuf,
     pub host: PathBuf,
     pub folder: PathBuf,
+}
+
+/// Makes the folder of working files.
+pub fn make_folder() {
+    fs::create_dir_all(FOLDER).expect("target/compare can be made");
 }
 
 /// What a program prints, given these arguments; an end without success is printed too, so that it differs. `file` is a
@@ -22,5 +36,12 @@ pub fn output(program: &Path, arguments: &[&str], file: &Path, text: &[u8]) -> V
     if !run.status.success() {
         output.extend_from_slice(format!("\nended with {}\n", run.status).as_bytes());
     }
+    output
+}
+
+/// What a program of the reference prints, `run` being all of it.
+pub fn reference_output<'t>(run: impl FnOnce(&'t [u8], &mut Vec<u8>) -> io::Result<()>, text: &'t [u8]) -> Vec<u8> {
+    let mut output = Vec::new();
+    run(text, &mut output).expect("memory takes all output");
     output
 }

@@ -1,5 +1,17 @@
 //! Random numbers from a seed alone (splitmix64), so that every run can be had again.
 
+/// The place of each part of a run in the random numbers of a seed. `CALLS` and `VECTORS` have the same one: nothing
+/// else is common to them, and a seed is to give the run that it always gave.
+pub mod part {
+    pub const SESSION: u64 = 1;
+    /// The switch and the ticks of a list.
+    pub const LIST: u64 = 2;
+    /// The calls of a list.
+    pub const CALLS: u64 = 3;
+    pub const VECTORS: u64 = 3;
+    pub const TIMED_BYTES: u64 = 4;
+}
+
 /// A sequence of random numbers.
 #[derive(Clone, Debug)]
 pub struct Random(u64);
@@ -42,6 +54,11 @@ impl Random {
     pub fn spread(&mut self, most: u32) -> u32 {
         let low = 1 << self.below(u32::BITS - most.leading_zeros());
         self.between(low, most.min(2 * low - 1))
+    }
+
+    /// A digit of base 16, a letter as a capital.
+    pub fn digit(&mut self) -> u8 {
+        self.pick(b"0123456789ABCDEF")
     }
 
     /// One of the given values.

@@ -1,11 +1,8 @@
 //! A machine on a list of calls, with the digest that the replay library makes.
 
-use crate::call::{Call, BYTE, CALL_BYTES, TICKS};
+use crate::call::{Call, BYTE, CALL_BYTES, LONGEST_LENT, TICKS};
 use crate::digest;
 use crate::played::Played;
-
-/// The longest buffer that a call can lend.
-pub const LONGEST_LENT: usize = 255;
 
 /// A machine and the digest of its answers so far.
 pub struct Replay<M> {

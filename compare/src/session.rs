@@ -3,14 +3,11 @@
 use crate::bench::Typed;
 use crate::coverage::Coverage;
 use crate::operator::Operator;
-use crate::program::{self, Places};
-use crate::random::Random;
+use crate::program::{self, Places, END_OF_OUTPUT};
+use crate::random::{part, Random};
 use crate::shrink;
 use std::fs;
 use std::path::Path;
-
-/// The part's place in the random numbers of a seed.
-const PART: u64 = 1;
 
 /// One session of a seed.
 #[derive(Clone, Copy, Debug)]
@@ -30,7 +27,7 @@ fn ticks_of(random: &mut Random, index: u64) -> u32 {
 
 /// The text of a session and what it meets.
 pub fn text_of(session: Session) -> (Vec<u8>, Coverage) {
-    let mut random = Random::of_item(session.seed, PART, session.index);
+    let mut random = Random::of_item(session.seed, part::SESSION, session.index);
     let mut bench = Typed::new(ticks_of(&mut random, session.index));
     let mut random = Operator::new(random).work(&mut bench);
     bench.finish(&mut random)
@@ -43,9 +40,7 @@ fn proved_output(places: &Places, text: &[u8], name: &str) -> Vec<u8> {
 
 /// What the reference prints.
 fn reference_output(text: &[u8]) -> Vec<u8> {
-    let mut output = Vec::new();
-    reference::bench::run(text, &mut output).expect("memory takes all output");
-    output
+    program::reference_output(reference::bench::run, text)
 }
 
 fn differs(places: &Places, text: &[u8], name: &str) -> bool {
@@ -59,7 +54,7 @@ fn first_difference(proved: &[u8], reference: &[u8]) -> String {
     for number in 1.. {
         let (our, their) = (ours.next(), theirs.next());
         if our != their || our.is_none() {
-            let shown = |line: Option<&str>| line.unwrap_or("(end of output)").escape_debug().to_string();
+            let shown = |line: Option<&str>| line.unwrap_or(END_OF_OUTPUT).escape_debug().to_string();
             return format!("printed line {number}: bench {}, reference {}", shown(our), shown(their));
         }
     }

@@ -5,6 +5,8 @@ mod command;
 mod figure;
 
 use crate::random::Random;
+use crate::touch::Touch;
+use reference::command::LONGEST;
 
 /// A value for a field that is taken from 0 or 1 to `last`: the ends, what is next to them, one in the range, any.
 fn near(random: &mut Random, last: u32) -> u32 {
@@ -21,7 +23,7 @@ fn near(random: &mut Random, last: u32) -> u32 {
 
 /// Five distances, of which some are equal.
 fn distances(random: &mut Random) -> String {
-    let most = random.pick(&[3, 524_287, u32::MAX - 1]);
+    let most = random.pick(&[3, LONGEST, u32::MAX - 1]);
     let (one, other) = (random.below(most), random.below(most));
     let all: Vec<String> = (0..5)
         .map(|_| {
@@ -41,13 +43,8 @@ fn stray(random: &mut Random) -> u8 {
 fn damaged(random: &mut Random, line: String) -> Vec<u8> {
     let mut line = line.into_bytes();
     let at = random.between(1, line.len() as u32 - 1) as usize;
-    match random.below(3) {
-        0 => line[at] = stray(random),
-        1 => {
-            line.remove(at);
-        }
-        _ => line.insert(at, stray(random)),
-    }
+    let touch = random.pick(&[Touch::Replace, Touch::Drop, Touch::PutIn]);
+    touch.apply(&mut line, at, || stray(random));
     line
 }
 

@@ -1,11 +1,11 @@
 //! Random sessions, call lists and lines for the host end through the proved code and through the reference.
 
-use compare::coverage::{grouped, Counted};
+use compare::counted::{grouped, Counted};
 use compare::hosted::{self, Batch};
 use compare::list::{self, List};
-use compare::program::Places;
+use compare::program::{self, Places};
 use compare::session::{self, Session};
-use std::path::PathBuf;
+use std::fmt::Display;
 use std::process::exit;
 use std::sync::atomic::{AtomicBool, AtomicUsize, Ordering};
 use std::thread;
@@ -48,19 +48,26 @@ fn wish() -> Wish {
     wish
 }
 
+impl Wish {
+    /// The seed of an item, and which of the seed's items it is; the seeds take turns.
+    fn share(&self, at: u64) -> (u64, u64) {
+        let seeds = self.seeds.len() as u64;
+        (self.seeds[(at % seeds) as usize], at / seeds)
+    }
+}
+
 fn sessions(wish: &Wish) -> Vec<Session> {
-    let seeds = wish.seeds.len() as u64;
-    (0..wish.sessions).map(|at| Session { seed: wish.seeds[(at % seeds) as usize], index: at / seeds }).collect()
+    let session = |(seed, index)| Session { seed, index };
+    (0..wish.sessions).map(|at| session(wish.share(at))).collect()
 }
 
 /// Lists are planned until their ticks add up to the wish; the last one is cut to fit.
 fn lists(wish: &Wish) -> Vec<List> {
-    let seeds = wish.seeds.len() as u64;
     let mut left = wish.ticks;
     let mut lists = Vec::new();
     while left > 0 {
-        let at = lists.len() as u64;
-        let mut list = list::plan(wish.seeds[(at % seeds) as usize], at / seeds);
+        let (seed, index) = wish.share(lists.len() as u64);
+        let mut list = list::plan(seed, index);
         list.ticks = left.min(list.ticks as u64) as u32;
         left -= list.ticks as u64;
         lists.push(list);
@@ -70,11 +77,9 @@ fn lists(wish: &Wish) -> Vec<List> {
 
 /// The last batch is cut to fit.
 fn batches(wish: &Wish) -> Vec<Batch> {
-    let seeds = wish.seeds.len() as u64;
-    let batch = |at: u64| Batch {
-        seed: wish.seeds[(at % seeds) as usize],
-        index: at / seeds,
-        lines: BATCH.min(wish.vectors - at * BATCH) as usize,
+    let batch = |at| {
+        let (seed, index) = wish.share(at);
+        Batch { seed, index, lines: BATCH.min(wish.vectors - at * BATCH) as usize }
     };
     (0..wish.vectors.div_ceil(BATCH)).map(batch).collect()
 }
@@ -123,35 +128,35 @@ fn run_all<T: Sync, C: Counted>(items: &[T], run: impl Fn(usize, &T) -> Result<C
     seen
 }
 
+fn tell(what: &str, count: u64, seen: impl Display) {
+    print!("{what}: {}\n{seen}  no difference\n", grouped(count));
+}
+
 fn run_sessions(wish: &Wish, places: &Places) {
     let run = |core, session: &Session| session::compare(places, *session, &format!("working-{core}.in"));
     let seen = run_all(&sessions(wish), run);
-    print!("sessions through the two bench programs: {}\n{seen}  no difference\n", grouped(seen.items));
+    tell("sessions through the two bench programs", seen.items, seen);
 }
 
 fn run_lists(wish: &Wish, places: &Places) {
     let seen = run_all(&lists(wish), |_, list| list::compare(&places.folder, *list));
-    print!("call lists through library and reference: {}\n{seen}  no difference\n", grouped(seen.items));
+    tell("call lists through library and reference", seen.items, seen);
 }
 
 fn run_vectors(wish: &Wish, places: &Places) {
     let run = |core, batch: &Batch| hosted::compare(places, *batch, &format!("working-{core}.vectors"));
     let seen = run_all(&batches(wish), run);
-    print!("lines through the two host ends: {}\n{seen}  no difference\n", grouped(seen.lines));
+    tell("lines through the two host ends", seen.lines, seen);
 }
 
 fn main() {
     let wish = wish();
-    let places = Places {
-        bench: PathBuf::from("target/bin/bench"),
-        host: PathBuf::from("target/bin/vectors"),
-        folder: PathBuf::from("target/compare"),
-    };
+    let places = Places { bench: program::BENCH.into(), host: program::HOST.into(), folder: program::FOLDER.into() };
     if !places.bench.is_file() || !places.host.is_file() {
         eprintln!("a proved program is absent: run `rt check bench vectors` first\n{USAGE}");
         exit(2);
     }
-    std::fs::create_dir_all(&places.folder).expect("target/compare can be made");
+    program::make_folder();
     println!("seeds {:?}", wish.seeds);
     if wish.sessions > 0 {
         run_sessions(&wish, &places);

@@ -1,11 +1,11 @@
 //! What the proved code costs beside the reference and the plain C floor: ticks, lines and characters, both bench
 //! programs on whole inputs, and the dearest single calls.
 
+use compare::program;
 use compare::speed::{floor, programs, single, steady};
-use std::fs;
 
 fn main() {
-    fs::create_dir_all("target/compare").expect("target/compare can be made");
+    program::make_folder();
     let rows = steady::rows();
     let floor = floor::rows();
     steady::print(rows.iter().chain(floor.iter().flatten()));

@@ -2,8 +2,8 @@
 
 use super::Operator;
 use crate::bench::Bench;
+use crate::bits::{BLOCKED, BY_SENSOR, HELD, MOVING, WRONG_MASTER};
 use crate::line;
-use crate::observed::{BLOCKED, BY_SENSOR, HELD, MOVING, WRONG_MASTER};
 use reference::machine::{TICKS_PER_MS, WATCH_FULL};
 
 impl Operator {
@@ -47,14 +47,12 @@ impl Operator {
             59 if self.time_for_silence(bench) => self.stored_past_watch(bench),
             _ => self.start_move(bench),
         }
-        let count = self.random.spread(20);
-        self.run_calm(bench, count);
+        self.run_some(bench, 20);
     }
 
     /// Inputs act while nothing runs, and a start meets them.
     fn alarm_at_rest<B: Bench>(&mut self, bench: &mut B) {
-        let inputs = self.some_inputs();
-        let word = self.alarm_word(inputs);
+        let word = self.alarm_word();
         let count = self.random.between(1, 5);
         bench.run(count, word);
         self.order(bench, line::start(self.master));

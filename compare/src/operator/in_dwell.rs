@@ -1,6 +1,6 @@
 //! What an operator does in a dwell: starts that wait, and how the dwell runs out.
 
-use super::{Operator, AXES};
+use super::{any_axis, Operator};
 use crate::bench::Bench;
 use crate::line;
 use reference::machine::TICKS_PER_MS;
@@ -28,7 +28,7 @@ impl Operator {
         self.order(bench, line::start_after_dwell(self.master));
         match self.random.below(8) {
             0 => {
-                let other = self.random.below(AXES as u32) as usize;
+                let other = any_axis(&mut self.random);
                 self.order(bench, line::start_after_dwell(other));
             }
             1 => {
@@ -47,13 +47,9 @@ impl Operator {
     fn run_dwell<B: Bench>(&mut self, bench: &mut B) {
         let whole = TICKS_PER_MS * self.dwell_ms;
         match self.random.below(10) {
-            0..=2 => {
-                let count = self.random.spread(whole.max(1));
-                self.run_calm(bench, count);
-            }
+            0..=2 => self.run_some(bench, whole.max(1)),
             3..=4 => {
-                let inputs = self.some_inputs();
-                let word = self.alarm_word(inputs);
+                let word = self.alarm_word();
                 self.run_calm(bench, whole.saturating_sub(2));
                 bench.run(3, word);
             }

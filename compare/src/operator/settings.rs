@@ -3,7 +3,7 @@
 use super::Operator;
 use crate::bench::Bench;
 use crate::line;
-use reference::command::{FASTEST, LONGEST_DWELL, ON_SETTING_BITS, STEEPEST};
+use reference::command::{FASTEST, HIGHEST_POLARITY, LONGEST_DWELL, ON_SETTING_BITS, STEEPEST};
 use reference::machine::{INPUT_WORD_END, TICKS_PER_MS, WATCH_FULL};
 
 impl Operator {
@@ -74,7 +74,7 @@ impl Operator {
             2 => self.set_dwell(bench),
             3 => self.set_watch(bench),
             4 => {
-                let bits = self.random.below(4_096);
+                let bits = self.random.below(HIGHEST_POLARITY + 1);
                 self.order(bench, line::polarity(bits));
             }
             5 => self.set_outputs(bench),

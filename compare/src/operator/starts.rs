@@ -1,6 +1,6 @@
 //! Distances and starts: most are right, some meet 14, 15 and 17.
 
-use super::{Operator, AXES};
+use super::{any_axis, Operator, AXES};
 use crate::bench::Bench;
 use crate::line;
 use reference::command::LONGEST;
@@ -42,7 +42,7 @@ impl Operator {
 
     /// Sets five distances; seldom another axis than the longest is to be master.
     pub(super) fn set_distances<B: Bench>(&mut self, bench: &mut B) {
-        self.master = self.random.below(AXES as u32) as usize;
+        self.master = any_axis(&mut self.random);
         let longest = self.master_distance();
         for axis in 0..AXES {
             let distance = if axis == self.master { longest } else { self.other_distance(longest) };
@@ -50,7 +50,7 @@ impl Operator {
             self.order(bench, line::distance(axis, minus, distance));
         }
         if self.random.chance(3) {
-            self.master = self.random.below(AXES as u32) as usize;
+            self.master = any_axis(&mut self.random);
         }
     }
 

@@ -28,8 +28,7 @@ impl Operator {
         if self.patience == 0 {
             self.lose_patience(bench);
         }
-        let count = self.random.spread(self.usual_run);
-        self.run_calm(bench, count);
+        self.run_some(bench, self.usual_run);
     }
 
     /// A stop by order, by an input, or by a setting that makes an input act.
@@ -40,8 +39,7 @@ impl Operator {
             }
             3..=4 => self.set_inputs(bench),
             _ => {
-                let inputs = self.some_inputs();
-                let word = self.alarm_word(inputs);
+                let word = self.alarm_word();
                 let count = self.random.spread(200);
                 bench.run(count, word);
             }

@@ -1,6 +1,7 @@
 //! The dearest single calls, each with the calls that lead to it.
 
-use super::load::{Calls, LINE_END, SETTINGS};
+use super::load::{Calls, LINE_END};
+use crate::bits::LIMITS;
 use crate::call::{Call, TICKS};
 
 /// Steepest slope and highest speed, the limits of the load, and general outputs.
@@ -16,9 +17,6 @@ const FIRST: u32 = 156;
 
 /// The ticks of a dwell of one ms before its last one.
 const DWELL: u32 = 249;
-
-/// The input word of all ten limits.
-const LIMITS: u32 = 0x3FF;
 
 /// A call after a list of others.
 pub struct Single {
@@ -59,15 +57,14 @@ fn dwelling() -> Calls {
 
 /// The calls of the table. The start turned away by 17 is one whose last axis alone would leave the range.
 pub fn singles() -> [Single; 8] {
-    let load = || Calls::default().lines(&SETTINGS);
     [
-        tick("a tick at rest", load().ticks(FIRST, 0), 0),
+        tick("a tick at rest", Calls::load().ticks(FIRST, 0), 0),
         tick("a stored start's tick", dwelling(), 0),
         tick("an ending tick, five pulses", started(&ONE_PULSE, ONLY - 1), 0),
         tick("a limit met, five pulses", started(&TWO_PULSES, FIRST - 1), LIMITS),
-        end_of("0D of q08", load(), "q08"),
-        end_of("0D of a start, Q080", load(), "Q080"),
-        end_of("0D of P08F4241, number 10", load(), "P08F4241"),
+        end_of("0D of q08", Calls::load(), "q08"),
+        end_of("0D of a start, Q080", Calls::load(), "Q080"),
+        end_of("0D of P08F4241, number 10", Calls::load(), "P08F4241"),
         end_of("0D of a start, number 17", started(&ONE_PULSE, ONLY).lines(&["P017FFFF", "P047FFFF"]), "Q081"),
     ]
 }
@@ -76,11 +73,9 @@ pub fn singles() -> [Single; 8] {
 mod tests {
     use super::super::load::LENT;
     use super::*;
+    use crate::bits::{MOVING, STOPPED};
     use crate::replay;
     use reference::Machine;
-
-    const MOVING: u32 = 1 << 1;
-    const STOPPED: u32 = 1 << 3;
 
     /// The reference before and after a call of the table, and what it answers.
     fn done(at: usize) -> (Machine, Machine, Vec<i8>, usize, u8) {

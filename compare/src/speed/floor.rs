@@ -1,6 +1,7 @@
 //! The plain C floor: compiled for this machine, run, and its tables read.
 
 use super::steady::Row;
+use crate::program::FOLDER;
 use std::path::{Path, PathBuf};
 use std::process::Command;
 
@@ -13,7 +14,7 @@ fn folder() -> Option<PathBuf> {
 /// What a program of the floor prints.
 fn output(folder: &Path, name: &str) -> Option<String> {
     let source = folder.join(format!("{name}.c"));
-    let program = Path::new("target/compare").join(name);
+    let program = Path::new(FOLDER).join(name);
     let mut compiler = Command::new("gcc");
     compiler.args(["-std=gnu11", "-O3", "-march=native", "-o"]).arg(&program).arg(source);
     if !compiler.status().ok()?.success() {

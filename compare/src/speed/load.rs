@@ -3,10 +3,11 @@
 use crate::call::Call;
 use crate::temixohuel::Controller;
 use crate::{proved, replay};
+use reference::machine::LEAST_REPLY_BUFFER;
 use reference::Machine;
 
-/// The length of the lent buffers.
-pub const LENT: usize = 120;
+/// The length of the lent buffers: the least that takes every reply.
+pub const LENT: usize = LEAST_REPLY_BUFFER;
 
 /// The load of the floor: five crooked distances, limits that act while high, general outputs.
 pub const SETTINGS: [&str; 9] =
@@ -33,6 +34,11 @@ pub const MACHINES: [(&str, Replayed); 3] = [
 pub struct Calls(Vec<u8>);
 
 impl Calls {
+    /// The settings of the load.
+    pub fn load() -> Calls {
+        Calls::default().lines(&SETTINGS)
+    }
+
     pub fn call(mut self, call: Call) -> Calls {
         self.0.extend_from_slice(&call.bytes());
         self

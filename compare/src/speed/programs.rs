@@ -2,9 +2,9 @@
 
 use super::clock;
 use super::load::{LOADS, SETTINGS, WARM_TICKS};
-use crate::coverage::grouped;
+use crate::counted::grouped;
 use crate::program;
-use crate::random::Random;
+use crate::random::{part, Random};
 use std::fs::{self, File};
 use std::path::{Path, PathBuf};
 use std::process::{Command, Stdio};
@@ -12,14 +12,13 @@ use std::time::Instant;
 
 /// The proved bench program and the reference's.
 const PROGRAMS: [(&str, &str); 2] =
-    [("bench program", "target/bin/bench"), ("reference's program", "reference/target/release/bench_reference")];
+    [("bench program", program::BENCH), ("reference's program", "reference/target/release/bench_reference")];
 
 const RANDOM_BYTES: usize = 20_000_000;
 const LINES: usize = 2_500_000;
 
-/// The seed of the random bytes, and the part's place in its random numbers.
+/// The seed of the random bytes.
 const SEED: u64 = 1;
-const PART: u64 = 4;
 
 /// Moves at 250 kHz, and the ticks of each: as many as leave room for a stop within the distance.
 const MOVES: usize = 20;
@@ -48,7 +47,7 @@ impl Cost {
 }
 
 fn random_bytes() -> Vec<u8> {
-    let mut random = Random::of_item(SEED, PART, 0);
+    let mut random = Random::of_item(SEED, part::TIMED_BYTES, 0);
     (0..RANDOM_BYTES / 8).flat_map(|_| random.bits().to_le_bytes()).collect()
 }
 
@@ -88,7 +87,7 @@ fn run(program: &str, input: &Path) -> Cost {
 
 /// Writes an input; both programs print the same on it, or their figures would tell nothing.
 fn written(at: usize, input: &[u8]) -> PathBuf {
-    let file = Path::new("target/compare").join(format!("speed-{at}.in"));
+    let file = Path::new(program::FOLDER).join(format!("speed-{at}.in"));
     let [ours, theirs] = PROGRAMS.map(|(_, program)| program::output(Path::new(program), &[], &file, input));
     assert!(ours == theirs, "the programs print two things on {}", file.display());
     file
@@ -154,8 +153,7 @@ mod tests {
 
     /// The sums that the reference prints for the first axis; every line but a `T` line is accepted.
     fn first_sums(text: &[u8]) -> Vec<i64> {
-        let mut output = Vec::new();
-        reference::bench::run(text, &mut output).expect("memory takes all output");
+        let output = program::reference_output(reference::bench::run, text);
         let output = String::from_utf8(output).expect("replies are text");
         let (replies, sums): (Vec<&str>, Vec<&str>) = output.lines().partition(|line| line.len() == 8);
         assert!(replies.iter().all(|reply| !reply.starts_with('U') || *reply == "U0000000"));

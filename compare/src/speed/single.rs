@@ -25,15 +25,19 @@ fn nanoseconds<R>(mut work: impl FnMut(usize) -> R) -> f64 {
     begin.elapsed().as_nanos() as f64 / TIMES as f64
 }
 
-/// The least ns of the list with the call less the least of the one without, the two in turn.
-fn by_lists(replay: Replayed, lists: &[Calls; 2]) -> f64 {
+/// The least ns of one work less the least of another, of runs that time both in turn.
+fn least_more(mut run: impl FnMut() -> [f64; 2]) -> f64 {
     let mut least = [f64::INFINITY; 2];
     for _ in 0..RUNS {
-        for (least, calls) in least.iter_mut().zip(lists) {
-            *least = least.min(nanoseconds(|_| replay(0, black_box(calls.bytes()))));
-        }
+        let [one, other] = run();
+        least = [least[0].min(one), least[1].min(other)];
     }
     least[0] - least[1]
+}
+
+/// The ns that the list with the call takes more than the one without.
+fn by_lists(replay: Replayed, lists: &[Calls; 2]) -> f64 {
+    least_more(|| lists.each_ref().map(|calls| nanoseconds(|_| replay(0, black_box(calls.bytes())))))
 }
 
 /// One call of the reference machine, its answer made and not counted.
@@ -45,16 +49,13 @@ fn answer(machine: &mut Machine, call: Call, lent: &mut [u8]) {
     }
 }
 
-/// The least ns of the call itself, each time on another copy of the reference machine, less the least of nothing.
+/// The ns that the call itself, each time on another copy of the reference machine, takes more than nothing.
 fn alone(ready: &Machine, call: Call) -> f64 {
     let mut lent = [0; LENT];
-    let mut least = [f64::INFINITY; 2];
-    for _ in 0..RUNS {
+    least_more(|| {
         let mut copies = vec![ready.clone(); TIMES];
-        least[0] = least[0].min(nanoseconds(|at| answer(&mut copies[at], call, black_box(&mut lent))));
-        least[1] = least[1].min(nanoseconds(|at| at));
-    }
-    least[0] - least[1]
+        [nanoseconds(|at| answer(&mut copies[at], call, black_box(&mut lent))), nanoseconds(|at| at)]
+    })
 }
 
 /// The ns of a call in one turn: library, reference, and the reference's call alone.

@@ -1,7 +1,7 @@
 //! The mean cost of a tick, of a line and of a character: long lists less short ones.
 
 use super::clock;
-use super::load::{must_agree, Calls, Replayed, LENT, LOADS, MACHINES, SETTINGS, WARM_TICKS};
+use super::load::{must_agree, Calls, Replayed, LENT, LOADS, MACHINES, WARM_TICKS};
 use std::hint::black_box;
 
 /// The timed ticks, those of the ramp before them left out.
@@ -40,10 +40,17 @@ struct Figure {
     steps: f64,
 }
 
+impl Figure {
+    /// Lists of one kind, the short one of `warm` steps and the long one of `timed` more.
+    fn of(list: impl Fn(usize) -> Calls, warm: usize, timed: usize) -> Figure {
+        Figure { long: list(warm + timed), short: list(warm), steps: timed as f64 }
+    }
+}
+
 /// The settings of the load and more lines, then ticks in one call.
 fn ticks_figure(lines: &[&str]) -> Figure {
-    let list = |count| Calls::default().lines(&SETTINGS).lines(lines).ticks(count, 0);
-    Figure { long: list(WARM_TICKS + TIMED_TICKS), short: list(WARM_TICKS), steps: TIMED_TICKS as f64 }
+    let list = |count| Calls::load().lines(lines).ticks(count as u32, 0);
+    Figure::of(list, WARM_TICKS as usize, TIMED_TICKS as usize)
 }
 
 fn many(line: &str, count: usize) -> Calls {
@@ -51,7 +58,7 @@ fn many(line: &str, count: usize) -> Calls {
 }
 
 fn line_figure(line: &str) -> Figure {
-    Figure { long: many(line, WARM_LINES + TIMED_LINES), short: many(line, WARM_LINES), steps: TIMED_LINES as f64 }
+    Figure::of(|count| many(line, count), WARM_LINES, TIMED_LINES)
 }
 
 /// Characters that join a line.
@@ -62,9 +69,7 @@ fn joining_figure() -> Figure {
 
 /// Characters of a line that is too long already.
 fn over_long_figure() -> Figure {
-    let list = |count| Calls::default().characters(&"5".repeat(count));
-    let (long, short) = (list(WARM_CHARACTERS + TIMED_CHARACTERS), list(WARM_CHARACTERS));
-    Figure { long, short, steps: TIMED_CHARACTERS as f64 }
+    Figure::of(|count| Calls::default().characters(&"5".repeat(count)), WARM_CHARACTERS, TIMED_CHARACTERS)
 }
 
 /// Three figures of ticks, two of lines, two of characters.

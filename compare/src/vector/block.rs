@@ -2,11 +2,9 @@
 
 use super::near;
 use crate::random::Random;
-
-const DIGITS: &[u8; 16] = b"0123456789ABCDEF";
-
-/// The most bytes of a line.
-const LONGEST: usize = 16;
+use crate::touch::Touch;
+use reference::command::ON_SETTING_BITS;
+use reference::vectors::MOST_READER_BYTES;
 
 /// The five digits after the code of an S block.
 fn order_digits(random: &mut Random, code: u32) -> u32 {
@@ -14,7 +12,7 @@ fn order_digits(random: &mut Random, code: u32) -> u32 {
     match code {
         6 => near(random, 127) % (1 << 20),
         8 => random.below(16) << 16 | random.pick(&[0, any & 0xFFFF]),
-        0xD | 0xE => any & 0x33FF | random.pick(&[0, 0, 0, bit]),
+        0xD | 0xE => any & ON_SETTING_BITS | random.pick(&[0, 0, 0, bit]),
         _ => random.pick(&[any, any, 0, 0x7FFFF, 0x80000, 0xFFFFF]),
     }
 }
@@ -33,10 +31,10 @@ fn content(random: &mut Random) -> (u8, u32) {
 /// A block whose fields may be out of their ranges.
 fn block(random: &mut Random) -> Vec<u8> {
     let (letter, number) = content(random);
-    let mut block = vec![letter, random.pick(DIGITS)];
+    let mut block = vec![letter, random.digit()];
     block.extend(format!("{number:06X}").bytes());
     if random.chance(50) {
-        block.push(random.pick(DIGITS));
+        block.push(random.digit());
     }
     block.push(b'\r');
     block
@@ -45,25 +43,21 @@ fn block(random: &mut Random) -> Vec<u8> {
 /// A byte near the one that was there, or any.
 fn touched(random: &mut Random, byte: u8) -> u8 {
     let any = random.below(256) as u8;
-    let digit = random.pick(DIGITS);
+    let digit = random.digit();
     random.pick(&[any, digit, byte ^ 0x20, byte.wrapping_add(1), byte.wrapping_sub(1), b'\r', b'\n', b'G', b'g'])
 }
 
 fn damage(random: &mut Random, block: &mut Vec<u8>) {
     let at = random.below(block.len() as u32) as usize;
     let byte = touched(random, block[at]);
-    match random.below(6) {
-        0 => {
-            block.remove(at);
-        }
-        1 => block.insert(at, byte),
-        2 => block.push(byte),
-        _ => block[at] = byte,
-    }
+    let (replaced, end) = ((Touch::Replace, at), block.len());
+    let all = [(Touch::Drop, at), (Touch::PutIn, at), (Touch::PutIn, end), replaced, replaced, replaced];
+    let (touch, at) = random.pick(&all);
+    touch.apply(block, at, || byte);
 }
 
 fn noise(random: &mut Random) -> Vec<u8> {
-    let length = random.below(LONGEST as u32 + 1);
+    let length = random.below(MOST_READER_BYTES as u32 + 1);
     (0..length).map(|_| random.below(256) as u8).collect()
 }
 
@@ -72,7 +66,7 @@ pub fn line(random: &mut Random) -> String {
     if !bytes.is_empty() && random.chance(40) {
         damage(random, &mut bytes);
     }
-    bytes.truncate(LONGEST);
+    bytes.truncate(MOST_READER_BYTES);
     let spelled: Vec<String> = bytes.iter().map(|byte| format!("{byte:02X}")).collect();
     format!("B {}", spelled.concat())
 }

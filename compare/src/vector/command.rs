@@ -2,28 +2,28 @@
 
 use super::near;
 use crate::random::Random;
+use reference::command::{FASTEST, HIGHEST_POLARITY, LONGEST, LONGEST_DWELL, ON_SETTING_BITS, STEEPEST};
+use reference::machine::INPUT_WORD_END;
 
 /// The commands of the page's table.
 const COMMANDS: u32 = 18;
 
-/// The bits of low-ON and high-ON that mean something.
-const INPUT_BITS: u32 = 0x33FF;
-
 /// The greatest value of each command that has one and is no set of input bits; 3 for the others.
 fn last(command: u32) -> u32 {
     match command {
-        0x00 => 524_287,
-        0x01 => 1_000_000,
-        0x02 | 0x05 => 4_095,
-        0x03 => 16_383,
-        0x11 => 0xFF_FFFF,
+        0x00 => LONGEST,
+        0x01 => FASTEST,
+        0x02 => STEEPEST,
+        0x03 => LONGEST_DWELL,
+        0x05 => HIGHEST_POLARITY,
+        0x11 => INPUT_WORD_END - 1,
         _ => 3,
     }
 }
 
 /// Input bits, at times with one that means nothing beside them.
 fn inputs(random: &mut Random) -> u32 {
-    let bits = random.bits() as u32 & INPUT_BITS;
+    let bits = random.bits() as u32 & ON_SETTING_BITS;
     if random.chance(40) {
         bits | 1 << random.below(32)
     } else {
@@ -42,7 +42,7 @@ fn value(random: &mut Random, command: u32) -> u32 {
 fn identification(random: &mut Random) -> String {
     match random.below(10) {
         0..=4 => "--".into(),
-        5..=8 => format!("{:02X}", random.pick(b"0123456789ABCDEF")),
+        5..=8 => format!("{:02X}", random.digit()),
         _ => format!("{:02X}", random.below(256)),
     }
 }

@@ -2,13 +2,14 @@
 
 use super::near;
 use crate::random::Random;
+use reference::command::{FASTEST, STEEPEST};
+use reference::vectors::LARGEST_WHOLE;
 
 /// The largest settings, and how many quarters a unit has.
-const SPEED: (char, u32, u64) = ('V', 1_000_000, 1);
-const SLOPE: (char, u32, u64) = ('A', 4_095, 5);
+const SPEED: (char, u32, u64) = ('V', FASTEST, 1);
+const SLOPE: (char, u32, u64) = ('A', STEEPEST, 5);
 
-/// The greatest m of a line, 2 to the 53, and what an exponent has added.
-const MOST: u64 = 1 << 53;
+/// What an exponent has added.
 const ADDED: i32 = 2_048;
 
 /// A quarter as a power of two.
@@ -19,7 +20,7 @@ type Pair = (u64, i32);
 
 /// The same value with a longer m, as far as there is room.
 fn lengthened(random: &mut Random, (m, exponent): Pair) -> Pair {
-    let room = if m == 0 { 0 } else { (MOST / m).ilog2() };
+    let room = if m == 0 { 0 } else { (LARGEST_WHOLE / m).ilog2() };
     let places = if random.chance(50) { room } else { random.below(room + 1) };
     (m << places, exponent - places as i32)
 }
