@@ -32,22 +32,22 @@ def citations(page):
                     yield number, cited, quoted
 
 
-def public(lib):
-    """The files of a library that others can name: its root, and each module declared with `pub mod`."""
-    text = lib.read_text(encoding="utf-8")
-    return [lib] + [lib.parent / f"{name}.rt" for name in re.findall(r"^pub mod (\w+);", text, re.M)]
-
-
 def entries(root):
-    """Each public function of a library, as the table names it: its file under crates/, and its name."""
-    for lib in sorted(source for lib in (root / "crates").glob("*/src/lib.rt") for source in public(lib)):
-        kind = None
-        for line in lib.read_text(encoding="utf-8").splitlines():
-            block = re.match(r"impl (\w+)", line)
-            kind = block.group(1) if block else None if line == "}" else kind
-            entry = re.match(r'\s*pub (?:extern "C" )?fn (\w+)', line)
-            if entry:
-                yield str(lib.relative_to(root / "crates")), f"{kind}::{entry.group(1)}" if kind else entry.group(1)
+    """Each public function of a library, as the table names it: its file under crates/, and its name.
+
+    Of a private module these are the methods alone, for their type may be handed out by another.
+    """
+    for lib in sorted((root / "crates").glob("*/src/lib.rt")):
+        open_modules = re.findall(r"^pub mod (\w+);", lib.read_text(encoding="utf-8"), re.M)
+        for source in sorted(lib.parent.glob("*.rt")):
+            kind = None
+            for line in source.read_text(encoding="utf-8").splitlines():
+                block = re.match(r"impl (\w+)", line)
+                kind = block.group(1) if block else None if line == "}" else kind
+                entry = re.match(r'\s*pub (?:extern "C" )?fn (\w+)', line)
+                if entry and (kind or source == lib or source.stem in open_modules):
+                    name = f"{kind}::{entry.group(1)}" if kind else entry.group(1)
+                    yield str(source.relative_to(root / "crates")), name
 
 
 def uncovered(root, page):

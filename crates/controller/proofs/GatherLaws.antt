@@ -1,5 +1,5 @@
--- The bytes of a stretch before its first 0D: each is a character that joins the line, with neither reply nor number,
--- and all together join it at once. Assumes nothing.
+-- The bytes of a stretch before its first 0D: each is a character that joins the line and ends none, with neither reply
+-- nor number, and all together join it at once. Assumes nothing.
 use Prim.Native.Nat.{ℕ}
 use mathlib.Core.Bool.{Bool, false, cond}
 use mathlib.Core.List.{List, [], _∷_, _++_, append-nil}
@@ -13,13 +13,13 @@ use Rattle.receiver.specs.Receiver as receiver
 use Rattle.receiver.specs.declared.Heard.the-variants.{Character}
 use Rattle.receiver.specs.Receiver.{Receipt, heardLine, before, beforeEnd}
 use Rattle.machine.specs.State.{Machine, withLine}
-use Rattle.machine.specs.Steps.{ByteAnswer, byteStep, answered, outcomeOf}
+use Rattle.machine.specs.Steps.{ByteAnswer, byteStep, answered, gathered, outcomeOf, outcome}
 use Rattle.machine.specs.Calls.{Call, byte, Origin, power, given, after, run, state, buffer, bytes}
 use Rattle.controller.specs.declared.state.Controller.{Controller}
 use Rattle.controller.specs.declared.state.Gathered.{Gathered}
 use Rattle.controller.specs.Held.{held, heldGathered}
 use Rattle.controller.specs.Reach.{Reachable, Made}
-use Rattle.controller.specs.Answers.{Quiet}
+use Rattle.controller.specs.Answers.{Quiet, Promised, stretch}
 use Rattle.controller.specs.Inner.Power.{lineWith}
 
 -- One character.
@@ -35,6 +35,23 @@ character m b e =
       reply = [];
       number = 0;
     }) e
+
+-- It ends no line.
+pub gathers : (m : Machine) (b : ℕ) → eqb b 13 ≡ false → outcome m b buffer ≡ gathered
+gathers m b e =
+    ap (λ (t : Bool). outcomeOf m
+    (cond {A = Receipt} t (record { line = []; heard = heardLine (m .line) })
+    (record { line = m .line ++ (b ∷ []); heard = Character }) .heard)) e
+
+-- What no character alters, no stretch alters.
+pub by-characters : {A : Type 0} (f : List Call → A)
+    → ((b : ℕ) (h : List Call) → eqb b 13 ≡ false → f (byte b buffer ∷ h) ≡ f h)
+    → (bs : List ℕ) (h : List Call) → f (bytes (beforeEnd bs) h) ≡ f h
+unfolding before
+by-characters f p [] h = refl
+by-characters f p (b ∷ bs) h =
+    by-bool (λ (x : List ℕ). f (bytes x h) ≡ f h) (eqb b 13) [] (b ∷ beforeEnd bs) (λ e. refl)
+    (λ e. by-characters f p bs (byte b buffer ∷ h) ∙ p b h e)
 
 pub run-on : (o : Origin) (x : Call) (h : List Call) → run o (x ∷ h) ≡ after (run o h) x
 unfolding run
@@ -65,14 +82,27 @@ quiet (b ∷ bs) m =
       (ap (λ (a : ByteAnswer). a .number) (character m b e), quiet bs (byteStep m b buffer .machine)),
     ))
 
+-- In the list of calls a stretch is its bytes.
+pub after-stretch : (c : Controller) (s : ℕ) (h : List Call) → held (state s h) ≡ c → (bs : List ℕ) (r : Gathered)
+    → Made c (λ m. r ≡ heldGathered m bs) → held (state s (bytes (beforeEnd bs) h)) ≡ r .controller
+unfolding run
+after-stretch c s h e bs r p =
+    ap held (joined (power s) bs h ∙ sym (joined (given (state s h)) bs []))
+    ∙ sym (ap (λ (x : Gathered). x .controller) (p s h e))
+
+-- ---- What `gather` answers
+
 module _ (self : Controller) (bs : List ℕ) (g : line.Gathered) (c : Controller)
     (q : receiver.Holding (self .cold .line) (λ l. g ≡ receiver.heldGathered l bs))
     (p : c ≡ lineWith self (g .next)) where
+  abbrev answer : Gathered
+  answer = record { controller = c; count = g .count }
+
   gathered-at : (m : Machine) → held m ≡ self → c ≡ held (withLine m (m .line ++ beforeEnd bs))
   gathered-at m e =
       p ∙ (λ i. lineWith (sym e i) (q (m .line) (ap (λ (x : Controller). x .cold .line) e) i .next))
 
-  pub gather-is : Made self (λ m. record { controller = c; count = g .count } ≡ heldGathered m bs)
+  gather-is : Made self (λ m. answer ≡ heldGathered m bs)
   unfolding run
   gather-is s h e =
       λ i. record {
@@ -80,10 +110,15 @@ module _ (self : Controller) (bs : List ℕ) (g : line.Gathered) (c : Controller
         count = q (state s h .line) (ap (λ (x : Controller). x .cold .line) e) i .count;
       }
 
-  pub gather-reach : Reachable self → Reachable c
-  gather-reach r = record {
-    switch = r .switch;
-    history = bytes (beforeEnd bs) (r .history);
-    made = ap held (joined (power (r .switch)) bs (r .history))
-        ∙ sym (gathered-at (state (r .switch) (r .history)) (r .made));
-  }
+  pub gather-answers : Reachable self → Promised self (stretch bs answer)
+  gather-answers r = (
+    gather-is,
+    (
+      λ s h e. quiet bs (state s h),
+      record {
+        switch = r .switch;
+        history = bytes (beforeEnd bs) (r .history);
+        made = after-stretch self (r .switch) (r .history) (r .made) bs answer gather-is;
+      },
+    ),
+  )

@@ -1,6 +1,7 @@
--- Demand 3 over the code's own calls: a power-on answer and any list of calls of `byte` and `tick` with what they were
--- lent and what they answered, each given the controller that the one before it left, each answer as its contract
--- promises. The sums run over the `pulses` of the answers. The list is the latest call first, as in Demand.antt.
+-- Demand 3 over the code's own calls: a power-on answer and any list of calls of `byte`, `tick` and `gather` with what
+-- they were lent and what they answered, each given the controller that the one before it left, each answer as its
+-- contract promises. The sums run over the `pulses` of the answers. The list is the latest call first, as in
+-- Demand.antt.
 use Prim.Native.Nat.{ℕ, _+_, _<_}
 use mathlib.Core.Bool.{cond}
 use mathlib.Core.List.{List, [], _∷_, map}
@@ -11,18 +12,20 @@ use Rattle.laws.specs.Axes.{each}
 use Rattle.reply.specs.declared.readings.Travel.{Travel}
 use Rattle.reply.specs.declared.readings.Position.{Position}
 use Rattle.reply.specs.Reply.{positionOf}
+use Rattle.receiver.specs.Receiver.{beforeEnd}
 use Rattle.machine.specs.State.{Machine}
 use Rattle.machine.specs.Steps.{byteStep, tickStep, bufferAfter}
 use Rattle.machine.specs.Calls as calls
-use Rattle.machine.specs.Calls.{Call, state, buffer}
+use Rattle.machine.specs.Calls.{Call, state, buffer, bytes}
 use Rattle.machine.specs.Roles.{begins, lineOf, resetBy}
 use Rattle.machine.specs.List.{effect, isPulse, travel, position, latest}
 use Rattle.machine.specs.Demand.{Holds}
 use Rattle.controller.specs.declared.state.Controller.{Controller}
 use Rattle.controller.specs.declared.state.PowerOn.{PowerOn}
 use Rattle.controller.specs.declared.state.ByteAnswer.{ByteAnswer}
+use Rattle.controller.specs.declared.state.Gathered.{Gathered}
 use Rattle.controller.specs.declared.state.TickAnswer.{TickAnswer}
-use Rattle.controller.specs.Held.{heldPower, heldTravel, heldPosition, heldByte, heldTick}
+use Rattle.controller.specs.Held.{heldPower, heldTravel, heldPosition, heldByte, heldGathered, heldTick}
 use Rattle.controller.specs.Reach.{Reachable, Made}
 
 -- ---- The reply of one call
@@ -41,27 +44,32 @@ Quiet m (b ∷ bs) =
 
 -- ---- Calls with their answers
 
--- A received byte, the lent buffer before and after the call, and the answer; or a tick's input word and its answer.
+-- A received byte, the lent buffer before and after the call, and the answer; a tick's input word and its answer; or a
+-- stretch of bytes, of which those before the first 0D are taken, and its answer.
 pub data Answered : Type 0 where
   byte : ℕ → List ℕ → List ℕ → ByteAnswer → Answered
   tick : ℕ → TickAnswer → Answered
+  stretch : List ℕ → Gathered → Answered
 
 -- The controller that a call left.
 abbrev pub leftBy : Answered → Controller
 leftBy (byte b entry exit r) = r .controller
 leftBy (tick w r) = r .controller
+leftBy (stretch bs r) = r .controller
 
 -- The controller after a list of calls: the first call gets what power-on gave.
 abbrev pub last : PowerOn → List Answered → Controller
 last p [] = p .controller
 last p (x ∷ l) = leftBy x
 
--- The contracts of `byte` and `tick`: what they promise of a call on the controller c.
+-- The contracts of `byte`, `tick` and `gather`: what they promise of a call on the controller c.
 abbrev pub Promised : Controller → Answered → Type 0
 Promised c (byte b entry exit r) =
     Made c (λ m. r ≡ heldByte (byteStep m b entry))
     × (Made c (λ m. exit ≡ bufferAfter (byteStep m b entry) entry) × Reachable (r .controller))
 Promised c (tick w r) = Made c (λ m. r ≡ heldTick (tickStep m w)) × Reachable (r .controller)
+Promised c (stretch bs r) =
+    Made c (λ m. r ≡ heldGathered m bs) × (Made c (λ m. Quiet m (beforeEnd bs)) × Reachable (r .controller))
 
 -- Power-on with the switch s answered p, and the calls of the list were made one after the other.
 abbrev pub Follows : ℕ → PowerOn → List Answered → Type 0
@@ -70,36 +78,49 @@ Follows s p (x ∷ l) = Follows s p l × Promised (last p l) x
 
 -- ---- What is read off such a list
 
--- The calls without their answers.
-abbrev pub callOf : Answered → Call
-callOf (byte b entry exit r) = calls.byte b entry
-callOf (tick w r) = calls.tick w
+-- The calls without their answers, after those of h. A stretch is a call of `byte` for each of its bytes before the
+-- first 0D.
+abbrev pub callsIn : Answered → List Call → List Call
+callsIn (byte b entry exit r) h = calls.byte b entry ∷ h
+callsIn (tick w r) h = calls.tick w ∷ h
+callsIn (stretch bs r) h = bytes (beforeEnd bs) h
 
 abbrev pub callsOf : List Answered → List Call
 callsOf [] = []
-callsOf (x ∷ l) = callOf x ∷ callsOf l
+callsOf (x ∷ l) = callsIn x (callsOf l)
 
--- What a call answered for axis k: a tick its pulse, a byte none.
-abbrev pub pulseIn : Answered → ℕ → ℤ
-pulseIn (byte b entry exit r) k = pos 0
-pulseIn (tick w r) k = getD (r .pulses) k (pos 0)
+-- What a tick answered for axis k.
+abbrev pub pulseIn : TickAnswer → ℕ → ℤ
+pulseIn r k = getD (r .pulses) k (pos 0)
 
--- What the latest call answered for axis k.
-abbrev pub latestIn : List Answered → ℕ → ℤ
+-- What the latest call answered for axis k: a byte answers no pulse. A stretch without a byte before its 0D is no call.
+abbrev pub afterBytes : List ℕ → ℤ → ℤ
+afterBytes [] before = before
+afterBytes (b ∷ bs) before = pos 0
+
+unfoldable pub latestIn : List Answered → ℕ → ℤ
 latestIn [] k = pos 0
-latestIn (x ∷ l) k = pulseIn x k
+latestIn (byte b entry exit r ∷ l) k = pos 0
+latestIn (tick w r ∷ l) k = pulseIn r k
+latestIn (stretch bs r ∷ l) k = afterBytes (beforeEnd bs) (latestIn l k)
 
 -- The answered pulses of all ticks since the latest move's start took effect, for a stored start that very tick
--- included.
+-- included. No line ends in a stretch, so that no start takes effect there.
 unfoldable pub countIn : ℕ → List Answered → ℕ → ℕ
 countIn s [] k = 0
-countIn s (x ∷ l) k = cond (begins (effect s (callsOf l) (callOf x))) 0 (countIn s l k) + isPulse (pulseIn x k)
+countIn s (byte b entry exit r ∷ l) k =
+    cond (begins (effect s (callsOf l) (calls.byte b entry))) 0 (countIn s l k)
+countIn s (tick w r ∷ l) k =
+    cond (begins (effect s (callsOf l) (calls.tick w))) 0 (countIn s l k) + isPulse (pulseIn r k)
+countIn s (stretch bs r ∷ l) k = countIn s l k
 
 -- The sum of the answered pulses since power-on or the last accepted position reset.
 unfoldable pub sumIn : ℕ → List Answered → ℕ → ℤ
 sumIn s [] k = pos 0
-sumIn s (x ∷ l) k =
-    cond (resetBy (lineOf (state s (callsOf l)) (callOf x))) (pos 0) (sumIn s l k +ℤ pulseIn x k)
+sumIn s (byte b entry exit r ∷ l) k =
+    cond (resetBy (lineOf (state s (callsOf l)) (calls.byte b entry))) (pos 0) (sumIn s l k)
+sumIn s (tick w r ∷ l) k = sumIn s l k +ℤ pulseIn r k
+sumIn s (stretch bs r ∷ l) k = sumIn s l k
 
 -- ---- The claim
 

@@ -1,20 +1,15 @@
 // The blending controller (paper 01): power-on, a received byte with its lent reply buffer, the bytes before a 0D at
 // once, a tick with its input word, readings. Only power-on and calls can make one. Each entry's answer is that of the
 // crate `machine`, held as specs/Held.antt says; the only premise is that the controller is reachable. Assumes nothing.
-ghost use mathlib.Core.List.{map};
 ghost use mathlib.Core.Path.{_≡_};
-ghost use Rattle.laws.specs.Axes.{each};
 ghost use Rattle.block.specs.Block.{frontOf};
-ghost use Rattle.reply.specs.Reply.{positionOf};
 ghost use Rattle.machine.specs.Demand.{Demand3};
 ghost use Rattle.machine.specs.Marked.{Marked};
-ghost use Rattle.machine.specs.Witness.{Witness};
-ghost use Rattle.machine.specs.Stops.{status};
-ghost use Rattle.receiver.specs.Receiver.{beforeEnd};
-ghost use Rattle.controller.specs.Held.{heldPower, heldGathered};
-ghost use Rattle.controller.specs.Reach.{Reachable, Made};
+ghost use Rattle.witness.specs.Witness.{Witness};
+ghost use Rattle.controller.specs.Held.{heldPower};
+ghost use Rattle.controller.specs.Reach.{Reachable};
 ghost use Rattle.controller.specs.Answers as answered;
-ghost use Rattle.controller.specs.Answers.{Quiet, ReplyIn, Promised, TravelsOf, PositionsOf, Demand3Answers};
+ghost use Rattle.controller.specs.Answers.{ReplyIn, Promised, Demand3Answers};
 ghost use Rattle.controller.specs.Inner.Power.{lineWith};
 pub use crate::state::ByteAnswer;
 pub use crate::state::Controller;
@@ -23,8 +18,6 @@ pub use crate::state::PowerOn;
 pub use crate::state::TickAnswer;
 use receiver::Heard;
 use receiver::Receiver;
-use reply::Position;
-use reply::Travel;
 
 mod dwell;
 mod line_end;
@@ -33,6 +26,7 @@ mod numbers;
 mod orders;
 mod power;
 mod ramp;
+mod readings;
 mod settings;
 mod start;
 pub mod state;
@@ -121,9 +115,7 @@ impl Controller {
     // list of calls. None of them has a reply or a number (`Quiet`), so that no buffer is lent.
     pub fn gather(self, bytes: &[u8]) -> Gathered
         requires { ⌜ Reachable self ⌝ }
-        ensures { λ r. ⌜ Made self (λ m. r ≡ heldGathered m (now (bytes .entry))) ⌝ }
-        ensures { λ _. ⌜ Made self (λ m. Quiet m (beforeEnd (now (bytes .entry)))) ⌝ }
-        ensures { λ r. ⌜ Reachable (r .controller) ⌝ }
+        ensures { λ r. ⌜ Promised self (answered.stretch (now (bytes .entry)) r) ⌝ }
     {
         let line = self.cold.line;
         let gathered = line.gather(bytes);
@@ -170,56 +162,5 @@ impl Controller {
             pulses,
             number: waited.number,
         }
-    }
-
-    // The pulses that each axis has sent in the latest move.
-    pub fn travels(self) -> [Travel; 5]
-        requires { ⌜ Reachable self ⌝ }
-        ensures { λ r. ⌜ TravelsOf self r ⌝ }
-    {
-        let hot = self.hot;
-        let counters = hot.counters;
-        let travels = counters.travels;
-        travels
-    }
-
-    // The signed pulses of each axis since power-on or the last position reset.
-    pub fn positions(self) -> [Position; 5]
-        requires { ⌜ Reachable self ⌝ }
-        ensures { λ r. ⌜ PositionsOf self r ⌝ }
-        ensures { λ r. ⌜ Made self (λ m. map positionOf r ≡ each (m .position)) ⌝ }
-    {
-        let hot = self.hot;
-        let counters = hot.counters;
-        let positions = counters.positions;
-        positions
-    }
-
-    // The status word.
-    pub fn status(self) -> u8
-        requires { ⌜ Reachable self ⌝ }
-        ensures { λ r. ⌜ Made self (λ m. r ≡ status m) ⌝ }
-    {
-        status::status(self)
-    }
-
-    // The speed setting in units of 0.25 Hz.
-    pub fn speed(self) -> u32
-        requires { ⌜ Reachable self ⌝ }
-        ensures { λ r. ⌜ Made self (λ m. r ≡ m .settings .speed) ⌝ }
-    {
-        let cold = self.cold;
-        let settings = cold.settings;
-        settings.speed
-    }
-
-    // The slope setting in units of 1.25 kHz/s.
-    pub fn slope(self) -> u32
-        requires { ⌜ Reachable self ⌝ }
-        ensures { λ r. ⌜ Made self (λ m. r ≡ m .settings .slope) ⌝ }
-    {
-        let cold = self.cold;
-        let settings = cold.settings;
-        settings.slope
     }
 }

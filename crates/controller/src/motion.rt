@@ -3,6 +3,7 @@ ghost use mathlib.Core.Path.{_≡_};
 ghost use Prim.Native.Nat.{_≤_, _<_};
 ghost use Rattle.controller.specs.Inner.Motion.{
   shareStepOf,
+  idleOf,
   axisStepOf,
   dwellLeftOf,
   steppedOf,
@@ -55,6 +56,19 @@ pub struct Axis {
     pub pulse: i8,
 }
 
+// An axis that sends no pulse in a tick.
+fn idle(travel: Travel, position: Position, remainder: u32) -> Axis
+    ensures { λ r. ⌜ r ≡ idleOf travel position remainder ⌝ }
+{
+    Axis {
+        travel,
+        position,
+        remainder,
+        on: false,
+        pulse: 0,
+    }
+}
+
 // One axis in a tick: where the master pulses and its share grows, its travel and position go one further.
 fn axis_step(fires: bool, plan: Plan, counters: Counters, length: u32, k: usize) -> Axis
     requires { ⌜ (k < 5) × AxisStepFits fires plan counters length k ⌝ }
@@ -64,13 +78,7 @@ fn axis_step(fires: bool, plan: Plan, counters: Counters, length: u32, k: usize)
     let p = counters.positions[k];
     let remainder = counters.remainders[k];
     if !fires {
-        return Axis {
-            travel: t,
-            position: p,
-            remainder,
-            on: false,
-            pulse: 0,
-        };
+        return idle(t, p, remainder);
     }
     let s = share_step(remainder, plan.distances[k], length);
     if s.on {
@@ -91,13 +99,7 @@ fn axis_step(fires: bool, plan: Plan, counters: Counters, length: u32, k: usize)
             pulse: 1,
         };
     }
-    Axis {
-        travel: t,
-        position: p,
-        remainder: s.remainder,
-        on: false,
-        pulse: 0,
-    }
+    idle(t, p, s.remainder)
 }
 
 // The ticks of the dwell that are left: the end of a move begins one.

@@ -2,7 +2,6 @@
 ghost use mathlib.Core.Path.{_≡_};
 ghost use Prim.Native.Nat.{_≤_, _<_};
 ghost use Rattle.controller.specs.Inner.Start.{
-  longerOf,
   leavesOf,
   leavesAtOf,
   someLeaveOf,
@@ -11,34 +10,14 @@ ghost use Rattle.controller.specs.Inner.Start.{
   StartFits,
 };
 use crate::state::Counters;
-use crate::state::Flags;
 use crate::state::Hot;
-use crate::state::Pause;
 use crate::state::Plan;
 use crate::state::Run;
 use crate::state::Settings;
 use crate::state::Wires;
+use line::distances;
 use reply::Position;
 use reply::Travel;
-
-// Whether some axis is longer than the master.
-fn longer(distances: [u32; 5], length: u32) -> bool
-    ensures { λ r. ⌜ r ≡ longerOf distances length ⌝ }
-{
-    if length < distances[0] {
-        return true;
-    }
-    if length < distances[1] {
-        return true;
-    }
-    if length < distances[2] {
-        return true;
-    }
-    if length < distances[3] {
-        return true;
-    }
-    length < distances[4]
-}
 
 // Whether a position leaves its range in so many steps.
 fn leaves(position: Position, minus: bool, distance: u32) -> bool
@@ -94,7 +73,7 @@ pub(crate) fn start_number(settings: Settings, next: Plan, hot: Hot, master: u8)
     let distances = next.distances;
     let minus = next.minus;
     let length = distances[master as usize];
-    if longer(distances, length) {
+    if distances::some_longer(distances, length) {
         return 14;
     }
     if length == 0 {
@@ -117,6 +96,7 @@ pub(crate) fn begun(next: Plan, polarity: u32, switch: u8, hot: Hot, master: u8)
 {
     let distances = next.distances;
     let minus = next.minus;
+    let cells = outputs::axis_cells(switch, polarity, minus);
     let run = Run {
         length: distances[master as usize],
         gone: 0,
@@ -133,32 +113,18 @@ pub(crate) fn begun(next: Plan, polarity: u32, switch: u8, hot: Hot, master: u8)
         remainders: [0; 5],
         positions,
     };
-    let cells = outputs::axis_cells(switch, polarity, minus);
-    let ready = hot.wires;
     let wires = Wires {
-        general: ready.general,
+        general: hot.wires.general,
         cells,
     };
-    let told = hot.flags;
-    let flags = Flags {
-        wrong: told.wrong,
-        stopped: false,
-        emergency: told.emergency,
-        sensed: false,
-    };
-    let pause = Pause {
-        left: 0,
-        waiting: 0,
-    };
-    Hot {
-        plan: next,
-        counters,
-        run,
-        wires,
-        pause,
-        inputs: hot.inputs,
-        outputs: hot.outputs,
-        watch: hot.watch,
-        flags,
-    }
+    let mut begun = hot;
+    begun.plan = next;
+    begun.counters = counters;
+    begun.run = run;
+    begun.wires = wires;
+    begun.pause.left = 0;
+    begun.pause.waiting = 0;
+    begun.flags.stopped = false;
+    begun.flags.sensed = false;
+    begun
 }

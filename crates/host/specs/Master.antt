@@ -2,13 +2,12 @@
 use Prim.Native.Nat.{ℕ, _≤_, _<_}
 use mathlib.Core.Bool.{Bool, cond, not}
 use mathlib.Core.List.{List}
-use lib.Dec.{ltb}
 use lib.ListN.{getD}
-use Rattle.laws.specs.Axes.{some}
+use Rattle.line.specs.Distances.{someLonger}
 
 -- No axis is longer than this length.
 abbrev pub noneLonger : List ℕ → ℕ → Bool
-noneLonger distances length = not (some (λ k. ltb length (getD distances k 0)))
+noneLonger distances length = not (someLonger distances length)
 
 -- Axis k is the longest, or one of the longest.
 abbrev pub isLongest : List ℕ → ℕ → Bool

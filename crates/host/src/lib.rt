@@ -22,6 +22,7 @@ use digits::END;
 use digits::Ident;
 use line::command;
 use line::command::Command;
+use line::distances;
 
 mod content;
 
@@ -124,22 +125,7 @@ pub fn write_line(buf: &mut [u8], request: Request) -> Written
 fn none_longer(distances: [u32; 5], length: u32) -> bool
     ensures { λ r. ⌜ r ≡ noneLonger distances length ⌝ }
 {
-    if length < distances[0] {
-        return false;
-    }
-    if length < distances[1] {
-        return false;
-    }
-    if length < distances[2] {
-        return false;
-    }
-    if length < distances[3] {
-        return false;
-    }
-    if length < distances[4] {
-        return false;
-    }
-    true
+    !distances::some_longer(distances, length)
 }
 
 // The master for a move with these distances: the longest; of equals the lowest axis; 0 if all are 0.

@@ -29,6 +29,7 @@ use digits::Ident;
 use digits::Number;
 
 pub mod command;
+pub mod distances;
 mod row;
 
 // A line's judgement. The six digits as a number, absent ones 0, are kept for the echo of an order.

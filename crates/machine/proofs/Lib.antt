@@ -24,4 +24,3 @@ pub mod ListLaws
 pub mod DemandLaws
 pub mod MarkedLaws
 pub mod FlaggedLaws
-pub mod WitnessLaws

@@ -13,4 +13,3 @@ pub mod List
 pub mod Demand
 pub mod Marked
 pub mod Flagged
-pub mod Witness

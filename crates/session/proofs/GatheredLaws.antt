@@ -20,7 +20,7 @@ use Rattle.session.specs.Lines.{after}
 use Rattle.session.specs.Stretch.{isMark, stretch, heldStretch, Silent, keepsOf}
 use Rattle.session.proofs.SessionLaws.{rests-lives, lives-running}
 use Rattle.session.proofs.AfterLaws.{after-lives}
-use Rattle.session.proofs.StretchLaws.{prints-on, stretch-sent, sends-on, keeps-on, none-kept}
+use Rattle.session.proofs.StretchLaws.{silent, stretch-sent, sends-on, keeps-on, none-kept}
 
 nothing : (l : List ℕ) → length l ≡ 0 → l ≡ []
 nothing [] e = refl
@@ -72,11 +72,11 @@ module _ (s : Session) (bs : List ℕ) where
     -- All that `gather` promises.
     pub gathered-told : (t : Session) → Running s → Runs s (λ x. t ≡ heldBench (after x (stretch bs)))
         → Runs s (λ x. record { session = t; count = n } ≡ heldStretch x bs)
-        × (Runs s (λ x. Silent x bs) × Running t)
+        × (Runs s (λ x. Silent x (stretch bs)) × Running t)
     gathered-told t r q = (
       (λ w h p e i. record { session = q w h p e i; count = k i }),
       (
-        (λ w h p e rest. prints-on bs (record { machine = state w h; place = p }) rest),
+        (λ w h p e. silent bs (record { machine = state w h; place = p })),
         subst Running (sym (q (r .switch) (r .history) (r .place) (r .made)))
             (lives-running _ (after-lives (stretch bs) _ (rests-lives (r .switch) (r .history) (r .place)))),
       ),

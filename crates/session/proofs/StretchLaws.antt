@@ -1,10 +1,10 @@
 -- A stretch of characters, none of which is a line feed or 0D: what the bench is after them, and that they print
--- nothing. Assumes nothing.
+-- nothing and have no number. Assumes nothing.
 use Prim.Native.Nat.{ℕ, _<_}
 use native.Mathlib.Omega.{arith}
 use mathlib.Core.Bool.{Bool, true, false, _||_}
 use mathlib.Core.List.{List, [], _∷_, _++_, append-nil}
-use mathlib.Core.Path.{_≡_, refl, sym, ap, _∙_}
+use mathlib.Core.Path.{_≡_, refl, sym, ap, subst, _∙_}
 use lib.Dec.{eqb}
 use lib.ListN.{length, getD}
 use lib.Seq.{append-snoc}
@@ -33,10 +33,13 @@ use Rattle.session.specs.Session.{
   heldPlace,
   keptIn,
 }
-use Rattle.session.specs.Lines.{prints, after}
-use Rattle.session.specs.Stretch.{isMark, stretch, keepsOf}
+use Rattle.session.specs.Lines.{after}
+use Rattle.session.specs.Stretch.{isMark, stretch, Silent, keepsOf}
 
 -- ---- A byte that is neither
+
+abbrev Untold : Answer → Type 0
+Untold a = (a .printed ≡ []) × (a .number ≡ 0)
 
 or-left : (a b : Bool) → a || b ≡ false → a ≡ false
 or-left true b e = e
@@ -55,29 +58,29 @@ module _ (b : ℕ) (e : isMark b ≡ false) where
       sym (on-false (eqb b 10) (characterAt m p b) (ended (record { machine = m; place = p })) (characterAt m p b)
       (or-left (eqb b 10) (eqb b 13) e) refl)
 
-  sends-nothing : (m : Machine) (p : Place) → sends m b p .printed ≡ []
-  sends-nothing m p = ap (λ (a : steps.ByteAnswer). shown (a .reply)) (character m b no-end)
+  sends-nothing : (m : Machine) (p : Place) → Untold (sends m b p)
+  sends-nothing m p = (
+    ap (λ (a : steps.ByteAnswer). shown (a .reply)) (character m b no-end),
+    ap (λ (a : steps.ByteAnswer). a .number) (character m b no-end),
+  )
 
-  prints-nothing : (m : Machine) (p : Place) → characterAt m p b .printed ≡ []
-  prints-nothing m starting =
-      by-bool (λ (a : Answer). a .printed ≡ []) (eqb b 84) (keeps m (b ∷ [])) (sends m b sending) (λ q. refl)
+  tells-nothing : (m : Machine) (p : Place) → Untold (characterAt m p b)
+  tells-nothing m starting =
+      by-bool Untold (eqb b 84) (keeps m (b ∷ [])) (sends m b sending) (λ q. (refl, refl))
       (λ q. sends-nothing m sending)
-  prints-nothing m sending = sends-nothing m sending
-  prints-nothing m (asking l) = refl
+  tells-nothing m sending = sends-nothing m sending
+  tells-nothing m (asking l) = (refl, refl)
 
 -- ---- All of them
 
-pub prints-on : (bs : List ℕ) (x : Bench) (rest : List ℕ)
-    → prints x (stretch bs ++ rest) ≡ prints (after x (stretch bs)) rest
-unfolding before after prints
-prints-on [] x rest = refl
-prints-on (b ∷ bs) x rest =
-    by-bool (λ (s : List ℕ). prints x (s ++ rest) ≡ prints (after x s) rest) (isMark b) [] (b ∷ stretch bs)
-    (λ e. refl)
-    (λ e. ap (λ (l : List ℕ). l ++ prints (taken x b .bench) (stretch bs ++ rest))
-    (ap (λ (a : Answer). a .printed) (passes b e (x .machine) (x .place))
-    ∙ prints-nothing b e (x .machine) (x .place))
-    ∙ prints-on bs (taken x b .bench) rest)
+pub silent : (bs : List ℕ) (x : Bench) → Silent x (stretch bs)
+unfolding before
+silent [] x = tt
+silent (b ∷ bs) x =
+    by-bool (Silent x) (isMark b) [] (b ∷ stretch bs) (λ e. tt)
+    (λ e.
+    let u = subst Untold (sym (passes b e (x .machine) (x .place))) (tells-nothing b e (x .machine) (x .place)) in
+    (u .0, (u .1, silent bs (taken x b .bench))))
 
 -- None of them ends a line that goes in.
 pub stretch-sent : (bs : List ℕ) → beforeEnd (stretch bs) ≡ stretch bs

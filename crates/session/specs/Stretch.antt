@@ -1,7 +1,7 @@
 -- A stretch of characters, taken at once: the same as each of them by itself.
 use Prim.Native.Nat.{ℕ}
 use mathlib.Core.Bool.{Bool, true, false, _||_}
-use mathlib.Core.List.{List, _++_}
+use mathlib.Core.List.{List, [], _∷_}
 use mathlib.Core.Path.{_≡_}
 use lib.Dec.{eqb}
 use lib.ListN.{length}
@@ -10,8 +10,8 @@ use Rattle.receiver.specs.Receiver.{before}
 use Rattle.session.specs.declared.state.Gathered.{Gathered}
 use Rattle.session.specs.declared.state.Place.{Place}
 use Rattle.session.specs.declared.state.Place.the-variants.{Start, Sending, Asking}
-use Rattle.session.specs.Session.{Bench, heldBench}
-use Rattle.session.specs.Lines.{prints, after}
+use Rattle.session.specs.Session.{Bench, taken, heldBench}
+use Rattle.session.specs.Lines.{after}
 
 -- A line feed or 0D.
 abbrev pub isMark : ℕ → Bool
@@ -25,9 +25,10 @@ stretch bs = before isMark bs
 abbrev pub heldStretch : Bench → List ℕ → Gathered
 heldStretch x bs = record { session = heldBench (after x (stretch bs)); count = length (stretch bs) }
 
--- They print nothing: whatever comes after them, all that is printed is what the bench after them prints.
+-- Bytes that are taken one after another, none of which prints anything or has a number.
 abbrev pub Silent : Bench → List ℕ → Type 0
-Silent x bs = (rest : List ℕ) → prints x (stretch bs ++ rest) ≡ prints (after x (stretch bs)) rest
+Silent x [] = Unit {0}
+Silent x (b ∷ bs) = (taken x b .printed ≡ []) × ((taken x b .number ≡ 0) × Silent (taken x b .bench) bs)
 
 -- ---- On what is held: whether a line whose next character is b is kept.
 abbrev pub keepsOf : Place → ℕ → Bool

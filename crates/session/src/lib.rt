@@ -10,7 +10,7 @@ ghost use Rattle.session.specs.Kept.{Keeping};
 ghost use Rattle.session.specs.Lines.{Lines};
 ghost use Rattle.session.specs.Session.{fresh, ended, character, taken, finished, keptOf, untakenOf, heldBench};
 ghost use Rattle.session.specs.Session.{Told, Answers, Running, Runs};
-ghost use Rattle.session.specs.Stretch.{heldStretch, Silent};
+ghost use Rattle.session.specs.Stretch.{stretch, heldStretch, Silent};
 use crate::kept::Kept;
 pub use crate::state::Gathered;
 pub use crate::state::Place;
@@ -118,12 +118,12 @@ impl Session {
         }
     }
 
-    // The bytes before the first line feed or 0D, at once: the same as `take` of each. They print nothing, so that no
-    // buffer is lent.
+    // The bytes before the first line feed or 0D, at once: the same as `take` of each. They print nothing and have no
+    // number, so that no buffer is lent.
     pub fn gather(self, bytes: &[u8]) -> Gathered
         requires { ⌜ Running self ⌝ }
         ensures { λ r. ⌜ Runs self (λ x. r ≡ heldStretch x (now (bytes .entry))) ⌝ }
-        ensures { λ _. ⌜ Runs self (λ x. Silent x (now (bytes .entry))) ⌝ }
+        ensures { λ _. ⌜ Runs self (λ x. Silent x (stretch (now (bytes .entry)))) ⌝ }
         ensures { λ r. ⌜ Running (r .session) ⌝ }
     {
         let count = stretch::before_mark(bytes);

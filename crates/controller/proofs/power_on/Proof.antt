@@ -4,10 +4,10 @@ use Prim.Native.Nat.{ℕ}
 use mathlib.Core.Path.{_≡_, sym, _∙_}
 use Rattle.machine.specs.Demand.{Demand3}
 use Rattle.machine.specs.Marked.{Marked}
-use Rattle.machine.specs.Witness.{Witness}
 use Rattle.machine.proofs.DemandLaws.{demand-3}
 use Rattle.machine.proofs.MarkedLaws.{marked}
-use Rattle.machine.proofs.WitnessLaws.{witness}
+use Rattle.witness.specs.Witness.{Witness}
+use Rattle.witness.proofs.WitnessLaws.{witness}
 use Rattle.controller.specs.declared.state.PowerOn.{PowerOn}
 use Rattle.controller.specs.Held.{heldPower}
 use Rattle.controller.specs.Reach.{Reachable}

@@ -36,6 +36,10 @@ shareStepOf remainder distance length =
 abbrev pub axisStepPosition : Position → Bool → Position
 axisStepPosition p minus = cond minus (record { 0 = p .0 - 1 }) (record { 0 = p .0 + 1 })
 
+-- An axis that sends no pulse.
+abbrev pub idleOf : Travel → Position → ℕ → Axis
+idleOf t p remainder = record { travel = t; position = p; remainder = remainder; on = false; pulse = pos 0 }
+
 -- One axis by its share, travel, position and direction.
 abbrev pub axisStepGiven : Share → Travel → Position → Bool → Axis
 axisStepGiven s t p minus =
@@ -47,7 +51,7 @@ axisStepGiven s t p minus =
       on = true;
       pulse = directed minus 1;
     })
-    (record { travel = t; position = p; remainder = s .remainder; on = false; pulse = pos 0 })
+    (idleOf t p (s .remainder))
 
 -- One axis in a tick, by whether the master pulses in it.
 abbrev pub axisStepOf : Bool → Plan → Counters → ℕ → ℕ → Axis

@@ -6,6 +6,7 @@ use lib.Dec.{ltb, eqb}
 use lib.ListN.{getD}
 use Rattle.laws.specs.Axes.{each, some}
 use Rattle.inputs.specs.Inputs.{activeAt}
+use Rattle.line.specs.Distances.{someLonger}
 use Rattle.outputs.specs.declared.Cells.{Cells}
 use Rattle.reply.specs.declared.readings.Position.{Position}
 use Rattle.controller.specs.declared.state.Hot.{Hot}
@@ -21,10 +22,6 @@ use Rattle.controller.specs.Inner.Parts.{
   blockedIn,
   cellsOf,
 }
-
--- Some axis is longer than the master.
-abbrev pub longerOf : List ℕ → ℕ → Bool
-longerOf distances length = some (λ k. ltb length (getD distances k 0))
 
 -- A position leaves its range in so many steps.
 abbrev pub leavesOf : Position → Bool → ℕ → Bool
@@ -43,7 +40,7 @@ abbrev pub startNumberOf : Settings → Plan → Hot → ℕ → ℕ
 startNumberOf s next h master =
     cond (h .flags .emergency) 12
     (cond (activeAt (s .low) (s .high) (h .inputs) 13) 13
-    (cond (longerOf (next .distances) (getD (next .distances) master 0)) 14
+    (cond (someLonger (next .distances) (getD (next .distances) master 0)) 14
     (cond (eqb (getD (next .distances) master 0) 0) 15
     (cond (blockedIn s (h .inputs) next) 16
     (cond (someLeaveOf next (h .counters)) 17

@@ -1,7 +1,7 @@
 -- `axis_step` meets its contract: each return, by the tests and the answers that led there. Assumes nothing.
 use borrow.Author.Needs.{needs}
 use native.Mathlib.Omega.{arith}
-use mathlib.Core.Path.{refl}
+use mathlib.Core.Path.{refl, _∙_}
 use borrow.Author.Tests.{not-true, not-false}
 use Rattle.laws.proofs.Pick.{on-false}
 use Rattle.controller.proofs.StepLaws.{axis-short, axis-down, axis-up, axis-still}
@@ -26,8 +26,13 @@ mul-remainder c = search needs
 element-copy-out-remainder : tie.Need-element-copy-out-remainder
 element-copy-out-remainder c = search needs
 
+idle-requires : tie.Need-idle-requires
+idle-requires c κs = search needs
+
 returns : tie.Need-returns
-returns c = on-false _ _ _ _ (not-true (c .before .before .before .before .args .fires) (c .if1 .taken)) refl
+returns c =
+    c .idle .ensures
+    ∙ on-false _ _ _ _ (not-true (c .before .before .before .before .before .args .fires) (c .before .if1 .taken)) refl
 
 mul-share-step : tie.Need-mul-share-step
 mul-share-step c = search needs
@@ -102,13 +107,17 @@ returns-3 c =
     (s .share-step .ensures) (q .args .fires) (not-false (q .args .fires) (s .before .before .if1 .left))
     (t .if2 .taken) (c .before .before .if3 .left)
 
+idle-requires-2 : tie.Need-idle-requires-2
+idle-requires-2 c κs = search needs
+
 returns-4 : tie.Need-returns-4
 returns-4 c =
-    let s = c .before in
+    let s = c .before .before in
     let q = s .before .before .before .before .before .before in
-    axis-still (q .args .t2) (q .args .t3) (q .args .length) (q .args .k) (s .share-step .result)
+    c .idle2 .ensures
+    ∙ axis-still (q .args .t2) (q .args .t3) (q .args .length) (q .args .k) (s .share-step .result)
     (s .share-step .ensures) (q .args .fires) (not-false (q .args .fires) (s .before .before .if1 .left))
-    (c .if2 .left)
+    (c .before .if2 .left)
 
 pub axis-step-spec : {M : Type 1} → statement M
 axis-step-spec =
@@ -120,6 +129,7 @@ axis-step-spec =
     element-copy-out-p
     mul-remainder
     element-copy-out-remainder
+    idle-requires
     returns
     mul-share-step
     element-copy-out-share-step
@@ -131,4 +141,5 @@ axis-step-spec =
     add-t33
     add-t35
     returns-3
+    idle-requires-2
     returns-4)

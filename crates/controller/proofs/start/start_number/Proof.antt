@@ -22,22 +22,22 @@ mul-length c = search needs
 array-read-length : tie.Need-array-read-length
 array-read-length c = search needs
 
-longer-requires : tie.Need-longer-requires
-longer-requires c κs = search needs
+some-longer-requires : tie.Need-some-longer-requires
+some-longer-requires c κs = search needs
 
 returns-3 : tie.Need-returns-3
 returns-3 c =
     on-false _ _ _ _ (c .before .before .before .before .before .before .if1 .left)
     (on-false _ _ _ _ (sym (c .before .before .before .before .before .sensor .ensures) ∙
     c .before .before .before .before .if2 .left)
-    (on-true _ _ _ _ (sym (c .before .longer .ensures) ∙ c .if3 .taken) refl))
+    (on-true _ _ _ _ (sym (c .before .some-longer .ensures) ∙ c .if3 .taken) refl))
 
 returns-4 : tie.Need-returns-4
 returns-4 c =
     on-false _ _ _ _ (c .before .before .before .before .before .before .before .if1 .left)
     (on-false _ _ _ _ (sym (c .before .before .before .before .before .before .sensor .ensures) ∙
     c .before .before .before .before .before .if2 .left)
-    (on-false _ _ _ _ (sym (c .before .before .longer .ensures) ∙ c .before .if3 .left)
+    (on-false _ _ _ _ (sym (c .before .before .some-longer .ensures) ∙ c .before .if3 .left)
     (on-eq _ _ _ _ _ (c .if4 .taken) refl)))
 
 blocked-requires : tie.Need-blocked-requires
@@ -48,7 +48,7 @@ returns-5 c =
     on-false _ _ _ _ (c .before .before .before .before .before .before .before .before .before .if1 .left)
     (on-false _ _ _ _ (sym (c .before .before .before .before .before .before .before .before .sensor .ensures) ∙
     c .before .before .before .before .before .before .before .if2 .left)
-    (on-false _ _ _ _ (sym (c .before .before .before .before .longer .ensures) ∙ c .before .before .before .if3 .left)
+    (on-false _ _ _ _ (sym (c .before .before .before .before .some-longer .ensures) ∙ c .before .before .before .if3 .left)
     (on-ne _ _ _ _ _ (c .before .before .if4 .left)
     (on-true _ _ _ _ (sym (c .before .blocked .ensures) ∙ c .if5 .taken) refl))))
 
@@ -62,7 +62,7 @@ returns-6 c =
     (on-false _ _ _ _ (sym
     (c .before .before .before .before .before .before .before .before .before .before .before .sensor .ensures) ∙
     c .before .before .before .before .before .before .before .before .before .before .if2 .left)
-    (on-false _ _ _ _ (sym (c .before .before .before .before .before .before .before .longer .ensures) ∙
+    (on-false _ _ _ _ (sym (c .before .before .before .before .before .before .before .some-longer .ensures) ∙
     c .before .before .before .before .before .before .if3 .left)
     (on-ne _ _ _ _ _ (c .before .before .before .before .before .if4 .left)
     (on-false _ _ _ _ (sym (c .before .before .before .before .blocked .ensures) ∙ c .before .before .before .if5 .left)
@@ -75,7 +75,7 @@ returns-7 c =
     (on-false _ _ _ _ (sym
     (c .before .before .before .before .before .before .before .before .before .before .before .sensor .ensures) ∙
     c .before .before .before .before .before .before .before .before .before .before .if2 .left)
-    (on-false _ _ _ _ (sym (c .before .before .before .before .before .before .before .longer .ensures) ∙
+    (on-false _ _ _ _ (sym (c .before .before .before .before .before .before .before .some-longer .ensures) ∙
     c .before .before .before .before .before .before .if3 .left)
     (on-ne _ _ _ _ _ (c .before .before .before .before .before .if4 .left)
     (on-false _ _ _ _ (sym (c .before .before .before .before .blocked .ensures) ∙ c .before .before .before .if5 .left)
@@ -90,7 +90,7 @@ start-number-spec =
     returns-2
     mul-length
     array-read-length
-    longer-requires
+    some-longer-requires
     returns-3
     returns-4
     blocked-requires

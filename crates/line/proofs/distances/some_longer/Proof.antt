@@ -1,4 +1,4 @@
--- `longer` meets its contract: each return, by the tests and the answers that led there. Assumes nothing.
+-- `some_longer` meets its contract: each return, by the tests and the answers that led there. Assumes nothing.
 use borrow.Author.Needs.{needs}
 use Prim.Native.Nat.{ℕ}
 use mathlib.Core.Path.{refl}
@@ -6,8 +6,8 @@ use borrow.Author.Tests.{lt-ltb, le-ltb}
 use lib.Dec.{ltb}
 use lib.ListN.{getD}
 use Rattle.laws.proofs.Some.{some-0, some-1, some-2, some-3, some-4}
-use Rattle.controller.proofs.start.longer.Statement.{statement}
-use Rattle.controller.proofs.start.longer.Tie as tie
+use Rattle.line.proofs.distances.some_longer.Statement.{statement}
+use Rattle.line.proofs.distances.some_longer.Tie as tie
 
 array-read-if1 : tie.Need-array-read-if1
 array-read-if1 c = search needs
@@ -51,8 +51,8 @@ returns-5 c =
     (le-ltb _ _ (c .before .before .before .if1 .left)) (le-ltb _ _ (c .before .before .if2 .left))
     (le-ltb _ _ (c .before .if3 .left)) (le-ltb _ _ (c .if4 .left)) refl
 
-pub longer-spec : {M : Type 1} → statement M
-longer-spec =
+pub some-longer-spec : {M : Type 1} → statement M
+some-longer-spec =
     tie.close
     (tie.spec
     array-read-if1

@@ -19,7 +19,7 @@ use Rattle.machine.specs.List.{
   signed,
   latest,
 }
-use Rattle.machine.specs.Witness.{
+use Rattle.witness.specs.Witness.{
   begun,
   ordered,
   stopped,
