@@ -3,7 +3,8 @@
 
 An edit may alter several functions, and the gate asks only that one of them is refused. This asks it of each: in the
 function's own proof a fact fails, which is neither a name that no longer fits the code nor a callee that is not proved.
-An edit of specs/ alone must make some fact fail. Exit 1, naming what is not shown.
+An edit that alters specs/, alone or with the code that meets them, must make some fact fail. Exit 1, naming what is not
+shown.
 """
 import difflib
 import re
@@ -54,6 +55,11 @@ def altered(crate, edited):
                 yield source.name, users(edited, name) if constant else {name}
 
 
+def restates(crate, edited):
+    """Whether an edit alters a definition."""
+    return any((crate / at.relative_to(edited)).read_bytes() != at.read_bytes() for at in edited.glob("specs/**/*.antt"))
+
+
 def failed(log):
     """The functions in whose own proof a fact fails, and whether one fails anywhere."""
     own, anywhere = set(), False
@@ -79,7 +85,7 @@ def main():
             continue
         edits += 1
         own, anywhere = failed(log.read_text(encoding="utf-8"))
-        places = list(altered(crate, edited))
+        places = [] if restates(crate, edited) else list(altered(crate, edited))
         for source, names in places:
             shown += 1
             if not any(name and name.split("::")[-1] in own for name in names):

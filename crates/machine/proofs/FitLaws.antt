@@ -12,25 +12,22 @@ use Rattle.machine.specs.Steps.{powerOn, tries, looks, ticked, refusedTi
 use Rattle.machine.specs.Calls.{Call, byte, tick, after, run, state}
 use Rattle.machine.proofs.ShareLaws.{share-none}
 pub use Rattle.machine.proofs.Fits.{PlanFits, WaitingFits, Fits}
+use Rattle.machine.proofs.Fits.{fits-of}
 pub use Rattle.machine.proofs.FitStageLaws.{fits-takes, fits-stops, fits-looks}
 pub use Rattle.machine.proofs.FitRunLaws.{braked-small, towards-small, fits-runs}
 use Rattle.machine.proofs.FitLineLaws.{fits-byte}
 
 pub fits-power : (s : ℕ) → Fits (powerOn s)
-fits-power s = record {
-  settings = record { speed = omega arith; slope = omega arith; dwell = omega arith };
-  next = λ k h. omega arith;
-  move = record {
-    good = record { axis = λ k h. share-none 0 0 (omega arith); under = λ q. true-false false q refl };
-    plan = λ k h. omega arith;
-    master = omega arith;
-    speed = omega arith;
-    phase = omega arith;
-    within = λ k h. omega arith;
-  };
-  places = record { inside = λ k h. refl; room = λ q. true-false false q refl };
-  pause = record { left = omega arith; waiting = omega arith };
-}
+fits-power s =
+    fits-of _ (record { speed = omega arith; slope = omega arith; dwell = omega arith }) (λ k h. omega arith) (record {
+      good = record { axis = λ k h. share-none 0 0 (omega arith); under = λ q. true-false false q refl };
+      plan = λ k h. omega arith;
+      master = omega arith;
+      speed = omega arith;
+      phase = omega arith;
+      within = λ k h. omega arith;
+    }) (record { inside = λ k h. refl; room = λ q. true-false false q refl })
+    (record { left = omega arith; waiting = omega arith })
 
 pub fits-tick : (m : Machine) (w : ℕ) → Fits m → Fits (tickStep m w .machine)
 fits-tick m w f = when (tooLarge w)

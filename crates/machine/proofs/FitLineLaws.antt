@@ -2,7 +2,7 @@
 use Prim.Native.Nat.{ℕ, _-_, _≤_, _<_}
 use mathlib.Core.Bool.{Bool, true, false, cond, _&&_}
 use mathlib.Core.List.{List}
-use mathlib.Core.Path.{_≡_, refl, sym, subst}
+use mathlib.Core.Path.{_≡_, refl, subst}
 use native.Mathlib.Omega.{arith}
 use borrow.Author.Tests.{leb-true, eqb-true}
 use lib.Dec.{ltb, leb, eqb}
@@ -19,33 +19,22 @@ use Rattle.line.specs.Fits.{CommandFits, JudgedFits}
 use Rattle.line.proofs.Ranges.{within, axis, distance, by-code}
 use Rattle.line.proofs.Fits.{judge-fits}
 use Rattle.receiver.specs.Receiver.{Receipt}
-use Rattle.machine.specs.State.{Move, Machine, none, withMove, withSettings, withWatch, withFlags}
+use Rattle.machine.specs.State.{Machine, none, withMove, withSettings, withWatch, withFlags}
 use Rattle.machine.specs.Stops.{stopping, marks}
 use Rattle.machine.specs.Starts.{startNumber, begun, notes}
 use Rattle.machine.specs.Commands.{number, does, stores, drops, keepsStart, obeys}
 use Rattle.machine.specs.Steps.{Outcome, refused, decided, outcomeOf, outcome, answered, heardBy}
 use Rattle.machine.proofs.PositionLaws.{Room}
 use Rattle.machine.proofs.ReadyLaws.{passed, ready}
-use Rattle.machine.proofs.Fits.{SettingsFit, PlanFits, PauseFits, MoveFits, PlacesFit, Fits}
+use Rattle.machine.proofs.Fits.{SettingsFit, PauseFits, Fits, fits-of, fits-same}
 use Rattle.machine.proofs.FitStageLaws.{fits-begun, fits-stopping}
-
--- A machine that differs in no part that is kept in range.
-fits-same : (m a : Machine) → Fits m → a .settings ≡ m .settings → a .next ≡ m .next → a .move ≡ m .move
-    → a .position ≡ m .position → a .pause ≡ m .pause → Fits a
-fits-same m a f s n v p q = record {
-  settings = subst SettingsFit (sym s) (f .settings);
-  next = subst PlanFits (sym n) (f .next);
-  move = subst MoveFits (sym v) (f .move);
-  places = subst (λ (x : Move). PlacesFit x (a .position)) (sym v) (subst (PlacesFit (m .move)) (sym p) (f .places));
-  pause = subst PauseFits (sym q) (f .pause);
-}
 
 -- A machine that differs in its settings.
 fits-set : (m a : Machine) → Fits m → SettingsFit (a .settings) → a .next ≡ m .next → a .move ≡ m .move
     → a .position ≡ m .position → a .pause ≡ m .pause → Fits a
 fits-set m a f s n v p q =
     let g = fits-same m (withSettings a (m .settings)) f refl n v p q in
-    record { settings = s; next = g .next; move = g .move; places = g .places; pause = g .pause }
+    fits-of a s (g .next) (g .move) (g .places) (g .pause)
 
 reset-room : (s : Bool) (d t : ℕ) → d ≤ 524287 → Room s 524288 (d - t)
 reset-room true d t h = omega arith
@@ -71,16 +60,12 @@ fits-starting m b k w f h e = when (stores m w) refl
     when : (t : Bool) → stores m w ≡ t
         → Fits (withWatch (cond t (keepsStart (heardBy m b) k)
         (begun (heardBy m b) k)) 0)
-    when true q = record {
-      settings = f .settings;
-      next = f .next;
-      move = f .move;
-      places = f .places;
-      pause = record { left = f .pause .left; waiting = h };
-    }
+    when true q =
+        fits-of _ (f .settings) (f .next) (f .move) (f .places) (record { left = f .pause .left; waiting = h })
     when false q =
-        let g = fits-begun m k f h (ready m k (subst (λ (t : Bool). cond t 0 (startNumber m k) ≡ 0) q (p11 .1))) in
-        record { settings = g .settings; next = g .next; move = g .move; places = g .places; pause = g .pause }
+        fits-same (begun m k) _
+        (fits-begun m k f h (ready m k (subst (λ (t : Bool). cond t 0 (startNumber m k) ≡ 0) q (p11 .1))))
+        refl refl refl refl refl
 
 fits-stop : (m : Machine) (b : ℕ) → Fits m → Fits (withWatch (obeys (heardBy m b) 9) 0)
 fits-stop m b f = when (m .move .moving)
@@ -91,35 +76,25 @@ fits-stop m b f = when (m .move .moving)
     when : (t : Bool) → Fits (withWatch (drops (cond t
         (withFlags (withMove (heardBy m b) (stopping (m .move))) (marks (m .flags) true false)) (heardBy m b))) 0)
     when true = fits-stopping m _ f refl refl refl refl dropped
-    when false = record { settings = f .settings; next = f .next; move = f .move; places = f .places; pause = dropped }
+    when false = fits-of _ (f .settings) (f .next) (f .move) (f .places) dropped
 
 fits-order : (m : Machine) (b code : ℕ) → Fits m → Fits (withWatch (obeys (heardBy m b) code) 0)
 fits-order m b code f =
     by-code (λ (k : ℕ). Fits (withWatch (obeys (heardBy m b) k) 0)) (fits-stop m b f)
     (fits-same m _ f refl refl refl refl refl)
-    (record {
-      settings = f .settings;
-      next = f .next;
-      move = f .move;
-      places = record {
-        inside = λ k l. refl;
-        room = λ q k l. reset-room (m .move .plan .minus k) (m .move .plan .distance k) (m .move .travel k)
-            (f .move .plan k l);
-      };
-      pause = f .pause;
-    })
+    (fits-of _ (f .settings) (f .next) (f .move) (record {
+      inside = λ k l. refl;
+      room = λ q k l. reset-room (m .move .plan .minus k) (m .move .plan .distance k) (m .move .travel k)
+          (f .move .plan k l);
+    }) (f .pause))
     (λ k p q r. rw (p, q, r) (fits-same m _ f refl refl refl refl refl)) code
 
 pub fits-does : (m : Machine) (b : ℕ) (c : Command) → Fits m → CommandFits c → number m c ≡ 0
     → Fits (withWatch (does (heardBy m b) c) 0)
-fits-does m b (C.Distance k s d) f h e = record {
-  settings = f .settings;
-  next = λ j l. by-bool (λ (x : ℕ). x ≤ 524287) (eqb j k) _ _ (λ q. let r = distance k s d h .1 in omega (arith, r))
-      (λ q. f .next j l);
-  move = f .move;
-  places = f .places;
-  pause = f .pause;
-}
+fits-does m b (C.Distance k s d) f h e =
+    fits-of _ (f .settings)
+    (λ j l. by-bool (λ (x : ℕ). x ≤ 524287) (eqb j k) _ _ (λ q. let r = distance k s d h .1 in omega (arith, r))
+    (λ q. f .next j l)) (f .move) (f .places) (f .pause)
 fits-does m b (C.Set code v) f h e = fits-setting m b code v f h
 fits-does m b (C.Start k w) f h e = fits-starting m b k w f (axis k h) e
 fits-does m b (C.Order code) f h e = fits-order m b code f

@@ -31,7 +31,7 @@ use Rattle.machine.proofs.ShareLaws.{share-grows, share-once}
 use Rattle.machine.proofs.Runs.{Good}
 use Rattle.machine.proofs.PulseLaws.{step-pulse, runs-step, runs-end}
 use Rattle.machine.proofs.PositionLaws.{Room, place-step}
-use Rattle.machine.proofs.Fits.{SettingsFit, MoveFits, Fits}
+use Rattle.machine.proofs.Fits.{SettingsFit, PlanFits, PauseFits, Fits, fits-of}
 
 pub braked-small : (u a : ℕ) → u ≤ full → braked u a ≤ full
 braked-small u a h =
@@ -49,27 +49,21 @@ ramped-small s v f h =
     (λ e. braked-small (v .speed) (s .slope) h)
     (λ e. towards-small (v .speed) (50 * s .speed) (s .slope) h (let k = f .speed in omega (arith, k))))
 
-at-rest : (v : Move) → MoveFits v → MoveFits (atRest v)
-at-rest v f = record {
-  good = record { axis = f .good .axis; under = λ q. true-false false q refl };
-  plan = f .plan;
-  master = f .master;
-  speed = omega arith;
-  phase = omega arith;
-  within = f .within;
-}
-
-pub fits-ended : (m : Machine) → Fits m → Fits (ended m)
-fits-ended m f = record {
-  settings = f .settings;
-  next = f .next;
-  move = at-rest (m .move) (f .move);
-  places = record { inside = f .places .inside; room = λ q. true-false false q refl };
-  pause = record {
-    left = let q = f .settings .dwell in omega (arith, q);
-    waiting = f .pause .waiting;
-  };
-}
+-- The end of a move, whatever its speed and phase: it asks nothing of a move that runs.
+fits-ended : (m : Machine) → SettingsFit (m .settings) → PlanFits (m .next) → Good (atRest (m .move))
+    → PlanFits (m .move .plan) → m .move .master < 5
+    → ((k : ℕ) → k < 5 → m .move .travel k ≤ m .move .plan .distance k)
+    → ((k : ℕ) → k < 5 → outside (m .position k) ≡ false) → PauseFits (m .pause) → Fits (ended m)
+fits-ended m s n g p k t o q =
+    fits-of _ s n (record {
+      good = g;
+      plan = p;
+      master = k;
+      speed = omega arith;
+      phase = omega arith;
+      within = t;
+    }) (record { inside = o; room = λ r. true-false false r refl })
+    (record { left = let r = s .dwell in omega (arith, r); waiting = q .waiting })
 
 module _ (m : Machine) (f : Fits m) (e : m .move .moving ≡ true) where
   above : 0 < whole (m .move)
@@ -97,20 +91,15 @@ module _ (m : Machine) (f : Fits m) (e : m .move .moving ≡ true) where
 
   fits-stepped : (u phase : ℕ) → u ≤ full → phase < full
       → Good (stepped m u phase (gone (m .move) + 1) .move) → Fits (stepped m u phase (gone (m .move) + 1))
-  fits-stepped u phase h l g = record {
-    settings = f .settings;
-    next = f .next;
-    move = record {
-      good = g;
-      plan = f .move .plan;
-      master = f .move .master;
-      speed = h;
-      phase = l;
-      within = λ k q. share-short k;
-    };
-    places = record { inside = λ k q. place k q .0; room = λ r k q. place k q .1 };
-    pause = f .pause;
-  }
+  fits-stepped u phase h l g =
+      fits-of _ (f .settings) (f .next) (record {
+        good = g;
+        plan = f .move .plan;
+        master = f .move .master;
+        speed = h;
+        phase = l;
+        within = λ k q. share-short k;
+      }) (record { inside = λ k q. place k q .0; room = λ r k q. place k q .1 }) (f .pause)
 
   fits-pulsed : (u phase : ℕ) → u ≤ full → phase < full → Fits (pulsed m u phase (gone (m .move) + 1) .machine)
   fits-pulsed u phase h l = when (eqb (gone (m .move) + 1) (whole (m .move))) refl
@@ -118,24 +107,9 @@ module _ (m : Machine) (f : Fits m) (e : m .move .moving ≡ true) where
       when : (b : Bool) → eqb (gone (m .move) + 1) (whole (m .move)) ≡ b
           → Fits (cond b (ended (stepped m u phase (gone (m .move) + 1))) (stepped m u phase (gone (m .move) + 1)))
       when true q =
-          let g = runs-end m (f .move .good) e u phase (eqb-true (gone (m .move) + 1) (whole (m .move)) q) .good in
-          record {
-            settings = f .settings;
-            next = f .next;
-            move = record {
-              good = g;
-              plan = f .move .plan;
-              master = f .move .master;
-              speed = omega arith;
-              phase = omega arith;
-              within = λ k r. share-short k;
-            };
-            places = record { inside = λ k r. place k r .0; room = λ r. true-false false r refl };
-            pause = record {
-              left = let r = f .settings .dwell in omega (arith, r);
-              waiting = f .pause .waiting;
-            };
-          }
+          fits-ended (stepped m u phase (gone (m .move) + 1)) (f .settings) (f .next)
+          (runs-end m (f .move .good) e u phase (eqb-true (gone (m .move) + 1) (whole (m .move)) q) .good)
+          (f .move .plan) (f .move .master) (λ k r. share-short k) (λ k r. place k r .0) (f .pause)
       when false q =
           fits-stepped u phase h l
           (runs-step m (f .move .good) e u phase (eqb-false (gone (m .move) + 1) (whole (m .move)) q) .good)
@@ -143,27 +117,23 @@ module _ (m : Machine) (f : Fits m) (e : m .move .moving ≡ true) where
   fits-advanced : (u grown : ℕ) → u ≤ full → grown ≤ m .move .phase + u → Fits (advanced m u grown .machine)
   fits-advanced u grown h l =
       by-lt (λ (r : Ran). Fits (r .machine)) grown full _ _
-      (λ q. record {
-        settings = f .settings;
-        next = f .next;
-        move = record {
-          good = record { axis = f .move .good .axis; under = f .move .good .under };
-          plan = f .move .plan;
-          master = f .move .master;
-          speed = h;
-          phase = q;
-          within = f .move .within;
-        };
-        places = record { inside = f .places .inside; room = f .places .room };
-        pause = f .pause;
-      })
+      (λ q. fits-of _ (f .settings) (f .next) (record {
+        good = record { axis = f .move .good .axis; under = f .move .good .under };
+        plan = f .move .plan;
+        master = f .move .master;
+        speed = h;
+        phase = q;
+        within = f .move .within;
+      }) (record { inside = f .places .inside; room = f .places .room }) (f .pause))
       (λ q. fits-pulsed u (grown - full) h (let r = f .move .phase in omega (arith, r)))
 
 pub fits-runs : (m : Machine) → Fits m → Fits (runs m .machine)
 fits-runs m f =
     by-bool (λ (r : Ran). Fits (r .machine)) (not (m .move .moving)) _ _ (λ q. f)
     (λ q. by-bool (λ (r : Ran). Fits (r .machine)) (m .move .stopping && leb (m .move .speed) (m .settings .slope)) _ _
-    (λ s. fits-ended m f)
+    (λ s. fits-ended m (f .settings) (f .next)
+    (record { axis = f .move .good .axis; under = λ r. true-false false r refl }) (f .move .plan) (f .move .master)
+    (f .move .within) (f .places .inside) (f .pause))
     (λ s. fits-advanced m f (not-false (m .move .moving) q) (ramped (m .settings) (m .move))
     (m .move .phase + ramped (m .settings) (m .move))
     (ramped-small (m .settings) (m .move) (f .settings) (f .move .speed)) (omega arith)))

@@ -2,7 +2,7 @@
 -- room for what is left of a running move. Assumes nothing.
 use Prim.Native.Nat.{ℕ, _-_, _≤_, _<_}
 use mathlib.Core.Bool.{true, false}
-use mathlib.Core.Path.{_≡_}
+use mathlib.Core.Path.{_≡_, sym, subst}
 use lib.IntN.{ℤ}
 use Rattle.reply.specs.Reply.{bias}
 use Rattle.machine.specs.State.{Settings, Plan, Move, Machine, Waiting, none, start, Pause}
@@ -47,3 +47,17 @@ pub record Fits (m : Machine) : Type 0 where
   pub move : MoveFits (m .move)
   pub places : PlacesFit (m .move) (m .position)
   pub pause : PauseFits (m .pause)
+
+-- A machine by its parts.
+pub fits-of : (a : Machine) → SettingsFit (a .settings) → PlanFits (a .next) → MoveFits (a .move)
+    → PlacesFit (a .move) (a .position) → PauseFits (a .pause) → Fits a
+fits-of a s n v p q = record { settings = s; next = n; move = v; places = p; pause = q }
+
+-- One that differs in no part that is kept in range.
+pub fits-same : (m a : Machine) → Fits m → a .settings ≡ m .settings → a .next ≡ m .next → a .move ≡ m .move
+    → a .position ≡ m .position → a .pause ≡ m .pause → Fits a
+fits-same m a f s n v p q =
+    fits-of a (subst SettingsFit (sym s) (f .settings)) (subst PlanFits (sym n) (f .next))
+    (subst MoveFits (sym v) (f .move))
+    (subst (λ (x : Move). PlacesFit x (a .position)) (sym v) (subst (PlacesFit (m .move)) (sym p) (f .places)))
+    (subst PauseFits (sym q) (f .pause))
