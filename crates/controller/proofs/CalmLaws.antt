@@ -1,14 +1,15 @@
 -- Where all limit inputs that low-ON has are high, and none that high-ON has is, no axis is blocked. Assumes nothing.
-use Prim.Native.Nat.{ℕ, zero, suc, _/_, _%_, _^_, _<_, min}
-use mathlib.Core.Bool.{Bool, true, false, not, cond, _&&_, _||_}
+use Prim.Native.Nat.{ℕ, zero, suc, _*_, _/_, _%_, _^_, _<_, min}
+use mathlib.Core.Bool.{Bool, true, false, not, _&&_}
 use mathlib.Core.Path.{_≡_, refl, sym, ap, _∙_}
 use native.Mathlib.Omega.{arith}
 use borrow.Author.Tests.{eqb-true}
 use lib.Bits.{bitAnd, and-step, and-shr}
 use lib.Dec.{ltb, eqb}
+use Rattle.laws.proofs.Five.{five}
 use Rattle.laws.proofs.Tests.{both}
 use Rattle.inputs.specs.Inputs.{blockedAt, someBlocked}
-use Rattle.inputs.proofs.Laws.{or-right, blocked-down}
+use Rattle.inputs.proofs.Laws.{still, all-free, clear-at}
 use Rattle.controller.specs.Inner.Watch.{isCalmOf}
 
 -- ---- One bit of two words
@@ -34,12 +35,6 @@ low-clear (suc zero) (suc (suc n)) p q e = absurd (omega arith)
 low-clear (suc (suc l)) n p q e = absurd (omega arith)
 
 -- ---- One axis, and all five
-
-still : (t m a b c d : Bool) → a ≡ false → b ≡ false → c ≡ false → d ≡ false
-    → false ≡ t && cond m (a || d) (b || c)
-still true true a b c d p q r s = rw (p, s)
-still true false a b c d p q r s = rw (q, r)
-still false m a b c d p q r s = refl
 
 free : (low high inputs distance : ℕ) (minus : Bool)
     → bitAnd high inputs % 4 ≡ 0 → bitAnd low inputs % 4 ≡ low % 4
@@ -67,24 +62,12 @@ calm-free low high inputs distance minus e =
     let t = both (eqb (bitAnd high inputs % 1024) 0) (eqb (bitAnd low inputs % 1024) (low % 1024)) e in
     let p = eqb-true (bitAnd high inputs % 1024) 0 (t .0) in
     let q = eqb-true (bitAnd low inputs % 1024) (low % 1024) (t .1) in
-    let h2 = and-shr high inputs 2 in
-    let h4 = and-shr high inputs 4 in
-    let h6 = and-shr high inputs 6 in
-    let h8 = and-shr high inputs 8 in
-    let l2 = and-shr low inputs 2 in
-    let l4 = and-shr low inputs 4 in
-    let l6 = and-shr low inputs 6 in
-    let l8 = and-shr low inputs 8 in
-    or-right _ _ false
-    (or-right _ _ false
-    (or-right _ _ false
-    (or-right _ _ false
-    (free low high inputs (distance 0) (minus 0) (omega (arith, p)) (omega (arith, q)))
-    (free (low / 4) (high / 4) (inputs / 4) (distance 1) (minus 1) (omega (arith, p, h2)) (omega (arith, q, l2))
-    ∙ blocked-down low high inputs (distance 1) (minus 1) 2))
-    (free (low / 16) (high / 16) (inputs / 16) (distance 2) (minus 2) (omega (arith, p, h4)) (omega (arith, q, l4))
-    ∙ blocked-down low high inputs (distance 2) (minus 2) 4))
-    (free (low / 64) (high / 64) (inputs / 64) (distance 3) (minus 3) (omega (arith, p, h6)) (omega (arith, q, l6))
-    ∙ blocked-down low high inputs (distance 3) (minus 3) 6))
-    (free (low / 256) (high / 256) (inputs / 256) (distance 4) (minus 4) (omega (arith, p, h8)) (omega (arith, q, l8))
-    ∙ blocked-down low high inputs (distance 4) (minus 4) 8)
+    all-free low high inputs distance minus (λ k h. free (low / 2 ^ (2 * k)) (high / 2 ^ (2 * k))
+    (inputs / 2 ^ (2 * k)) (distance k) (minus k)
+    (ap (λ (x : ℕ). x % 4) (sym (and-shr high inputs (2 * k))) ∙ clear-at (bitAnd high inputs) p k h)
+    (ap (λ (x : ℕ). x % 4) (sym (and-shr low inputs (2 * k))) ∙ same-at (bitAnd low inputs) low q k h))
+  where
+    same-at : (x y : ℕ) → x % 1024 ≡ y % 1024 → (k : ℕ) → k < 5 → x / 2 ^ (2 * k) % 4 ≡ y / 2 ^ (2 * k) % 4
+    same-at x y e =
+        five (λ (k : ℕ). x / 2 ^ (2 * k) % 4 ≡ y / 2 ^ (2 * k) % 4) (omega arith) (omega arith) (omega arith)
+        (omega arith) (omega arith)

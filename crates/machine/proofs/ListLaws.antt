@@ -5,7 +5,7 @@ use mathlib.Core.List.{List, [], _∷_}
 use mathlib.Core.Path.{_≡_, refl, sym, ap, subst, _∙_}
 use native.Mathlib.Omega.{arith}
 use lib.IntN.{ℤ, pos, _+ℤ_}
-use Rattle.laws.proofs.Tests.{true-false, both, neither}
+use Rattle.laws.proofs.Tests.{true-false, both, neither, either, second}
 use Rattle.machine.specs.State.{Machine}
 use Rattle.machine.specs.Shares as shares
 use Rattle.machine.specs.Steps.{Tried, untried, failed, began}
@@ -71,10 +71,6 @@ same-start untried f g x y p q = q
 same-start (failed n) f g x y p q = q
 same-start (began j) f g x y p q = p j
 
-or-split : {A : Type 0} (a b : Bool) → a || b ≡ true → (a ≡ true → A) → (a ≡ false → b ≡ true → A) → A
-or-split true b e f g = f refl
-or-split false b e f g = g refl e
-
 same-stop : (P B X Y : Bool) → (B ≡ false → X ≡ Y) → P || (not B && X) ≡ P || (not B && Y)
 same-stop P true X Y h = refl
 same-stop P false X Y h = ap (λ (b : Bool). P || b) (h refl)
@@ -83,9 +79,6 @@ old-start : {A : Type 0} (S : Tried) (f : ℕ → A) (x : A) → begins S ≡ fa
 old-start untried f x e = refl
 old-start (failed n) f x e = refl
 old-start (began j) f x e = true-false true refl e
-
-second-of : (a b : Bool) → a || b ≡ true → a ≡ false → b ≡ true
-second-of a b e f = or-split a b e (λ q. true-false a q f) (λ _ q. q)
 
 by-flag : {A : Type 0} (b : Bool) → (b ≡ true → A) → (b ≡ false → A) → A
 by-flag true f g = f refl
@@ -99,7 +92,7 @@ pub whole-end : (s : ℕ) (h : List Call) (x : Call) → Told s h
 whole-end s h x t b e f = by-flag (isTick x)
     (λ i. c .ending i b e
     (same-stop (stopsIn (state s h) x) (begins (effect s h x)) _ _
-    (λ n. t .stops (second-of (begins (effect s h x)) (state s h .move .moving) b n)) ∙ f))
+    (λ n. t .stops (second (begins (effect s h x)) (state s h .move .moving) b n)) ∙ f))
     (λ i. true-false (after (state s h) x .move .moving)
     (c .goes ∙ (λ j. b j && (not (i j) || after (state s h) x .move .moving))) e)
   where
@@ -121,13 +114,13 @@ told-next s h x t = record {
   sums = λ k. c .sum k ∙ ap (λ (z : ℤ). cond (resetBy L) (pos 0) (z +ℤ sent m x k)) (t .sums k);
   goes = c .goes ∙ (λ i. (begins S || t .goes i) && (not (isTick x) || sym (status-moving (after m x)) i));
   stops = λ q. c .stopped q ∙ stop q;
-  positive = λ q. or-split (begins S) (started s h) q (λ b. c .positive b)
+  positive = λ q. either (begins S) (started s h) q (λ b. c .positive b)
       (λ b u. subst (λ (n : ℕ). 0 < n) (sym (size b)) (t .positive u));
   rest = λ q e f k l. by-flag (begins S || state s h .move .moving)
       (λ b. whole-end s h x t b e f .there k l)
       (λ b. let n = neither (begins S) (state s h .move .moving) b in
       c .idle (n .0) (n .1) k l
-      ∙ (t .rest (second-of (begins S) (started s h) q (n .0)) (n .1) (unstopped (n .0) f) k l ∙ sym (kept (n .0) k)));
+      ∙ (t .rest (second (begins S) (started s h) q (n .0)) (n .1) (unstopped (n .0) f) k l ∙ sym (kept (n .0) k)));
 }
   where
     m : Machine
@@ -146,7 +139,7 @@ told-next s h x t = record {
         → stopsIn (state s h) x || (not (begins (effect s h x)) && state s h .move .stopping)
         ≡ stopsIn (state s h) x || (not (begins (effect s h x)) && stopBegun s h)
     stop q = same-stop (stopsIn (state s h) x) (begins (effect s h x)) _ _
-        (λ b. t .stops (second-of (begins (effect s h x)) (state s h .move .moving)
+        (λ b. t .stops (second (begins (effect s h x)) (state s h .move .moving)
         (both _ _ (sym (c .goes) ∙ q) .0) b))
 
     kept : begins (effect s h x) ≡ false → (k : ℕ)

@@ -10,7 +10,7 @@ use lib.IntN.{ℤ, pos, natAbs}
 use Rattle.laws.specs.Axes.{directed}
 use Rattle.laws.proofs.Pick.{by-bool}
 use Rattle.laws.proofs.Tests.{true-false}
-use Rattle.machine.specs.State.{Machine}
+use Rattle.machine.specs.State.{Pause, Machine, moveOf, withMove, withPause}
 use Rattle.machine.specs.Shares.{whole, gone, share, pulse}
 use Rattle.machine.specs.Ramp.{ended, stepped, pulsed}
 use Rattle.machine.specs.List.{isPulse}
@@ -77,12 +77,16 @@ module _ (m : Machine) (g : Good (m .move)) (e : m .move .moving ≡ true) where
       subst (λ (z : ℤ). 0 < natAbs z → z ≡ directed (m .move .plan .minus k) 1) (sym (step-pulse k h))
       (pulse-sign (m .move .travel k) (share (m .move) (gone (m .move) + 1) k) (m .move .plan .minus k))
 
-  pub runs-step : (u phase : ℕ) → (gone (m .move) + 1 ≡ whole (m .move) → ⊥)
-      → Runs m (pulse (m .move) (gone (m .move) + 1)) (stepped m u phase (gone (m .move) + 1))
-  runs-step u phase short = record {
+  -- A pulse, with the flags and the dwell that it leaves: it runs on below its end, and at its end it is whole.
+  runs-shared : (u phase : ℕ) (moving stopping : Bool) (p : Pause)
+      → (moving ≡ true → gone (m .move) + 1 < whole (m .move)) → (moving ≡ true → stopping ≡ m .move .stopping)
+      → (moving ≡ false → gone (m .move) + 1 ≡ whole (m .move))
+      → Runs m (pulse (m .move) (gone (m .move) + 1)) (withPause (withMove (stepped m u phase (gone (m .move) + 1))
+      (moveOf (m .move .plan) (m .move .master) (share (m .move) (gone (m .move) + 1)) u phase moving stopping)) p)
+  runs-shared u phase moving stopping p below same all = record {
     good = record {
       axis = step-axis;
-      under = λ q. subst (λ (n : ℕ). n < whole (m .move)) (sym master-to) below;
+      under = λ q. subst (λ (n : ℕ). n < whole (m .move)) (sym master-to) (below q);
     };
     plan = refl;
     master = refl;
@@ -92,40 +96,29 @@ module _ (m : Machine) (g : Good (m .move)) (e : m .move .moving ≡ true) where
     single = step-single;
     sign = step-sign;
     rests = λ q k. true-false (m .move .moving) e q;
-    still = λ q. q;
-    stopping = λ q. refl;
-    ending = λ p q r. true-false (m .move .moving) e r;
+    still = λ q. true-false (m .move .moving) e q;
+    stopping = same;
+    ending = λ _ _ r. record {
+      reached = master-to ∙ all r;
+      there = λ k h. share-whole _ _ _ _ positive (g .axis k h) (all r);
+      last = λ k h d. ap natAbs (step-pulse k h) ∙ pulse-last (m .move .travel k)
+          (share (m .move) (gone (m .move) + 1) k) (m .move .plan .minus k)
+          (subst (λ (n : ℕ). m .move .travel k < n) (sym (share-whole _ _ _ _ positive (g .axis k h) (all r)))
+          (share-last _ _ _ _ positive (g .axis k h) (all r) d));
+    };
   }
-    where
-      below : gone (m .move) + 1 < whole (m .move)
-      below = let h = g .under e in omega (arith, h, short)
+
+  pub runs-step : (u phase : ℕ) → (gone (m .move) + 1 ≡ whole (m .move) → ⊥)
+      → Runs m (pulse (m .move) (gone (m .move) + 1)) (stepped m u phase (gone (m .move) + 1))
+  runs-step u phase short =
+      runs-shared u phase (m .move .moving) (m .move .stopping) (m .pause)
+      (λ q. let h = g .under e in omega (arith, h, short)) (λ q. refl) (λ q. true-false (m .move .moving) e q)
 
   pub runs-end : (u phase : ℕ) → gone (m .move) + 1 ≡ whole (m .move)
       → Runs m (pulse (m .move) (gone (m .move) + 1)) (ended (stepped m u phase (gone (m .move) + 1)))
-  runs-end u phase all = record {
-    good = record {
-      axis = step-axis;
-      under = λ q. absurd (let z : _≡_ {A = ℕ} 0 1 = ap (λ (b : Bool). cond b 1 0) q in omega arith);
-    };
-    plan = refl;
-    master = refl;
-    next = refl;
-    count = step-count;
-    sum = λ k. refl;
-    single = step-single;
-    sign = step-sign;
-    rests = λ q k. true-false (m .move .moving) e q;
-    still = λ q. refl;
-    stopping = λ q. absurd (let z : _≡_ {A = ℕ} 0 1 = ap (λ (b : Bool). cond b 1 0) q in omega arith);
-    ending = λ p q r. record {
-      reached = master-to ∙ all;
-      there = λ k h. share-whole _ _ _ _ positive (g .axis k h) all;
-      last = λ k h d. ap natAbs (step-pulse k h) ∙ pulse-last (m .move .travel k)
-          (share (m .move) (gone (m .move) + 1) k) (m .move .plan .minus k)
-          (subst (λ (n : ℕ). m .move .travel k < n) (sym (share-whole _ _ _ _ positive (g .axis k h) all))
-          (share-last _ _ _ _ positive (g .axis k h) all d));
-    };
-  }
+  runs-end u phase all =
+      runs-shared 0 0 false false (ended m .pause) (λ q. true-false false q refl) (λ q. true-false false q refl)
+      (λ q. all)
 
   pub runs-pulse : (u phase : ℕ)
       → Runs m (pulse (m .move) (gone (m .move) + 1)) (pulsed m u phase (gone (m .move) + 1) .machine)

@@ -13,7 +13,7 @@ use Rattle.laws.specs.Bits.{bit}
 use Rattle.laws.proofs.BitLaws.{bit-down}
 use Rattle.laws.proofs.Pick.{on-lt, on-ge}
 use Rattle.outputs.specs.Outputs.{xor, isPlus, isMinus, hasDirection, firstLine, secondLine}
-use Rattle.outputs.specs.Outputs.{pairOf, inversesOf, linesOf, shownOf, restOf, fireOf}
+use Rattle.outputs.specs.Outputs.{pairOf, inversesOf, linesOf, cellOf, shownOf}
 
 -- ---- the switch
 
@@ -88,46 +88,17 @@ shown-down s q minus p early n m a = λ i.
 
 -- ---- five axes
 
-pub rests-each : (s q : ℕ) (minus : ℕ → Bool) {a b c d e : ℕ}
-    → a ≡ shownOf s q (minus 0) (pos 0) false 1 1
-    → b ≡ shownOf s (q / 4) (minus 1) (pos 0) false 4 16
-    → c ≡ shownOf s (q / 16) (minus 2) (pos 0) false 16 256
-    → d ≡ shownOf s (q / 64) (minus 3) (pos 0) false 64 4096
-    → e ≡ shownOf s (q / 256) (minus 4) (pos 0) false 256 65536
-    → a ∷ b ∷ c ∷ d ∷ e ∷ [] ≡ each (restOf s q minus)
-unfolding restOf
-rests-each s q minus {a} {b} {c} {d} {e} p0 p1 p2 p3 p4 = λ i. p0 i ∷ r1 i ∷ r2 i ∷ r3 i ∷ r4 i ∷ []
+-- With the pulses p, at rest or early in a tick: axis k in a polarity shifted down to it.
+pub cells-each : (s q : ℕ) (minus : ℕ → Bool) (p : ℕ → ℤ) (early : Bool) {a b c d e : ℕ}
+    → a ≡ shownOf s q (minus 0) (p 0) early 1 1
+    → b ≡ shownOf s (q / 4) (minus 1) (p 1) early 4 16
+    → c ≡ shownOf s (q / 16) (minus 2) (p 2) early 16 256
+    → d ≡ shownOf s (q / 64) (minus 3) (p 3) early 64 4096
+    → e ≡ shownOf s (q / 256) (minus 4) (p 4) early 256 65536
+    → a ∷ b ∷ c ∷ d ∷ e ∷ [] ≡ each (λ k. cellOf s q (minus k) (p k) early k)
+cells-each s q minus p early p0 p1 p2 p3 p4 =
+    λ i. p0 i ∷ (p1 ∙ at 1) i ∷ (p2 ∙ at 2) i ∷ (p3 ∙ at 3) i ∷ (p4 ∙ at 4) i ∷ []
   where
-    r1 : b ≡ restOf s q minus 1
-    r1 = p1 ∙ shown-down s q (minus 1) (pos 0) false 4 16 2
-
-    r2 : c ≡ restOf s q minus 2
-    r2 = p2 ∙ shown-down s q (minus 2) (pos 0) false 16 256 4
-
-    r3 : d ≡ restOf s q minus 3
-    r3 = p3 ∙ shown-down s q (minus 3) (pos 0) false 64 4096 6
-
-    r4 : e ≡ restOf s q minus 4
-    r4 = p4 ∙ shown-down s q (minus 4) (pos 0) false 256 65536 8
-
-pub fires-each : (s q : ℕ) (minus : ℕ → Bool) {a b c d e : ℕ}
-    → a ≡ shownOf s q (minus 0) (directed (minus 0) 1) true 1 1
-    → b ≡ shownOf s (q / 4) (minus 1) (directed (minus 1) 1) true 4 16
-    → c ≡ shownOf s (q / 16) (minus 2) (directed (minus 2) 1) true 16 256
-    → d ≡ shownOf s (q / 64) (minus 3) (directed (minus 3) 1) true 64 4096
-    → e ≡ shownOf s (q / 256) (minus 4) (directed (minus 4) 1) true 256 65536
-    → a ∷ b ∷ c ∷ d ∷ e ∷ [] ≡ each (fireOf s q minus)
-unfolding fireOf
-fires-each s q minus {a} {b} {c} {d} {e} p0 p1 p2 p3 p4 = λ i. p0 i ∷ r1 i ∷ r2 i ∷ r3 i ∷ r4 i ∷ []
-  where
-    r1 : b ≡ fireOf s q minus 1
-    r1 = p1 ∙ shown-down s q (minus 1) (directed (minus 1) 1) true 4 16 2
-
-    r2 : c ≡ fireOf s q minus 2
-    r2 = p2 ∙ shown-down s q (minus 2) (directed (minus 2) 1) true 16 256 4
-
-    r3 : d ≡ fireOf s q minus 3
-    r3 = p3 ∙ shown-down s q (minus 3) (directed (minus 3) 1) true 64 4096 6
-
-    r4 : e ≡ fireOf s q minus 4
-    r4 = p4 ∙ shown-down s q (minus 4) (directed (minus 4) 1) true 256 65536 8
+    at : (k : ℕ) → shownOf s (q / 2 ^ (2 * k)) (minus k) (p k) early (4 ^ k) (16 ^ k)
+        ≡ cellOf s q (minus k) (p k) early k
+    at k = shown-down s q (minus k) (p k) early (4 ^ k) (16 ^ k) (2 * k)

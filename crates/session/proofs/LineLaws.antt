@@ -12,7 +12,7 @@ use Rattle.machine.specs.Steps.{byteStep}
 use Rattle.machine.specs.Calls.{Call, byte, bytes, run, from}
 use Rattle.session.specs.Asked.{askedOf}
 use Rattle.session.specs.Session.{sending, asking, Answer, shown, buffer, asks}
-use Rattle.session.specs.Lines.{prints, atLine, Done, replies, goesIn, doneBy, lineDone, isLine, Lines}
+use Rattle.session.specs.Lines.{prints, atLine, replies, goesIn, doneBy, lineDone, isLine, Lines}
 
 -- A character of a line is no line feed, and the rest is a line.
 char : (t r : Bool) → not t && r ≡ true → t ≡ false
@@ -85,6 +85,17 @@ sending-last m (c ∷ cs) e =
 
 -- ---- from the first character
 
+-- The first character: a T is kept, another goes in.
+abbrev kept : Machine → ℕ → Answer
+kept m c = record { bench = record { machine = m; place = asking (c ∷ []) }; printed = []; number = 0 }
+
+abbrev gone : Machine → ℕ → Answer
+gone m c = record {
+  bench = record { machine = byteStep m c buffer .machine; place = sending };
+  printed = shown (byteStep m c buffer .reply);
+  number = byteStep m c buffer .number;
+}
+
 whole-line : (m : Machine) (cs rest : List ℕ) → isLine cs ≡ true
     → prints (atLine m) (cs ++ (10 ∷ rest)) ≡ lineDone m cs .printed ++ prints (lineDone m cs .bench) rest
 unfolding prints replies run
@@ -93,55 +104,23 @@ whole-line m [] rest e =
     (sym (append-nil (shown (byteStep m 13 buffer .reply))))
 whole-line m (c ∷ cs) rest e = rw (char (eqb c 10) (isLine cs) e) (by (eqb c 84))
   where
-    r : isLine cs ≡ true
-    r = rest-line (eqb c 10) (isLine cs) e
-
-    kept : Answer
-    kept = record { bench = record { machine = m; place = asking (c ∷ []) }; printed = []; number = 0 }
-
-    gone : Answer
-    gone = record {
-      bench = record { machine = byteStep m c buffer .machine; place = sending };
-      printed = shown (byteStep m c buffer .reply);
-      number = byteStep m c buffer .number;
-    }
-
     by : (t : Bool)
-        → cond t kept gone .printed ++ prints (cond t kept gone .bench) (cs ++ (10 ∷ rest))
+        → cond t (kept m c) (gone m c) .printed ++ prints (cond t (kept m c) (gone m c) .bench) (cs ++ (10 ∷ rest))
         ≡ cond t (doneBy (asks m (askedOf (c ∷ cs)))) (goesIn m (c ∷ (cs ++ (13 ∷ [])))) .printed
         ++ prints (cond t (doneBy (asks m (askedOf (c ∷ cs)))) (goesIn m (c ∷ (cs ++ (13 ∷ [])))) .bench) rest
-    by true = asking-whole m (c ∷ []) cs rest r
-    by false =
-        ap (λ (x : List ℕ). shown (byteStep m c buffer .reply) ++ x)
-        (sending-whole (byteStep m c buffer .machine) cs rest r
-        ∙ ap (λ (x : List ℕ). replies (byteStep m c buffer .machine) (cs ++ (13 ∷ [])) ++ x)
-        (next m c (cs ++ (13 ∷ [])) rest))
-        ∙ sym (append-assoc (shown (byteStep m c buffer .reply)) _ _)
+    by true = asking-whole m (c ∷ []) cs rest (rest-line (eqb c 10) (isLine cs) e)
+    by false = rw (char (eqb c 10) (isLine cs) e) at (sending-whole m (c ∷ cs) rest e)
 
 last-line : (m : Machine) (c : ℕ) (cs : List ℕ) → isLine (c ∷ cs) ≡ true
     → prints (atLine m) (c ∷ cs) ≡ lineDone m (c ∷ cs) .printed
 unfolding prints replies run
 last-line m c cs e = rw (char (eqb c 10) (isLine cs) e) (by (eqb c 84))
   where
-    r : isLine cs ≡ true
-    r = rest-line (eqb c 10) (isLine cs) e
-
-    kept : Answer
-    kept = record { bench = record { machine = m; place = asking (c ∷ []) }; printed = []; number = 0 }
-
-    gone : Answer
-    gone = record {
-      bench = record { machine = byteStep m c buffer .machine; place = sending };
-      printed = shown (byteStep m c buffer .reply);
-      number = byteStep m c buffer .number;
-    }
-
     by : (t : Bool)
-        → cond t kept gone .printed ++ prints (cond t kept gone .bench) cs
+        → cond t (kept m c) (gone m c) .printed ++ prints (cond t (kept m c) (gone m c) .bench) cs
         ≡ cond t (doneBy (asks m (askedOf (c ∷ cs)))) (goesIn m (c ∷ (cs ++ (13 ∷ [])))) .printed
-    by true = asking-last m (c ∷ []) cs r
-    by false =
-        ap (λ (x : List ℕ). shown (byteStep m c buffer .reply) ++ x) (sending-last (byteStep m c buffer .machine) cs r)
+    by true = asking-last m (c ∷ []) cs (rest-line (eqb c 10) (isLine cs) e)
+    by false = rw (char (eqb c 10) (isLine cs) e) at (sending-last m (c ∷ cs) e)
 
 pub lines : Lines
 unfolding prints

@@ -2,7 +2,7 @@
 -- nothing and have no number. Assumes nothing.
 use Prim.Native.Nat.{ℕ, _<_}
 use native.Mathlib.Omega.{arith}
-use mathlib.Core.Bool.{Bool, true, false, _||_}
+use mathlib.Core.Bool.{true, false}
 use mathlib.Core.List.{List, [], _∷_, _++_, append-nil}
 use mathlib.Core.Path.{_≡_, refl, sym, ap, subst, _∙_}
 use lib.Dec.{eqb}
@@ -12,9 +12,8 @@ use Rattle.laws.proofs.Pick.{on-true, on-false, by-bool}
 use Rattle.receiver.specs.Receiver.{before, beforeEnd}
 use Rattle.machine.specs.State.{Machine}
 use Rattle.machine.specs.Steps as steps
-use Rattle.machine.specs.Steps.{byteStep}
 use Rattle.machine.specs.Calls.{Call, byte, Origin, given, run, from, bytes}
-use Rattle.laws.proofs.Tests.{true-false}
+use Rattle.laws.proofs.Tests.{true-false, neither}
 use Rattle.controller.proofs.GatherLaws.{character, run-on}
 use Rattle.session.specs.Session.{
   Place,
@@ -41,22 +40,14 @@ use Rattle.session.specs.Stretch.{isMark, stretch, Silent, keepsOf}
 abbrev Untold : Answer → Type 0
 Untold a = (a .printed ≡ []) × (a .number ≡ 0)
 
-or-left : (a b : Bool) → a || b ≡ false → a ≡ false
-or-left true b e = e
-or-left false b e = refl
-
-or-right : (a b : Bool) → a || b ≡ false → b ≡ false
-or-right true b e = true-false true refl e
-or-right false b e = e
-
 module _ (b : ℕ) (e : isMark b ≡ false) where
   no-end : eqb b 13 ≡ false
-  no-end = or-right (eqb b 10) (eqb b 13) e
+  no-end = neither (eqb b 10) (eqb b 13) e .1
 
   passes : (m : Machine) (p : Place) → taken (record { machine = m; place = p }) b ≡ characterAt m p b
   passes m p =
       sym (on-false (eqb b 10) (characterAt m p b) (ended (record { machine = m; place = p })) (characterAt m p b)
-      (or-left (eqb b 10) (eqb b 13) e) refl)
+      (neither (eqb b 10) (eqb b 13) e .0) refl)
 
   sends-nothing : (m : Machine) (p : Place) → Untold (sends m b p)
   sends-nothing m p = (

@@ -1,9 +1,11 @@
 -- The writer's tests in order; what it promises of every line is in LineTrips. Assumes nothing.
 use borrow.Author.Needs.{needs}
 use native.Mathlib.Omega.{arith}
-use mathlib.Core.Path.{sym, _∙_}
+use mathlib.Core.Bool.{true}
+use mathlib.Core.Path.{_≡_, sym, _∙_}
 use borrow.Author.Tests.{not-true, not-false}
 use denote.Ref.{now}
+use Rattle.line.specs.Ranges.{fits}
 use Rattle.host.proofs.Writes.{
   too-short,
   out-of-range,
@@ -15,6 +17,13 @@ use Rattle.host.proofs.Writes.{
 use Rattle.host.proofs.LineTrips.{promised}
 use Rattle.host.proofs.write_line.Statement.{statement}
 use Rattle.host.proofs.write_line.Tie as tie
+
+-- Past the first two tests: the values at the start, and the command in its range.
+abbrev start : tie.Else2 → tie.Start
+start f = f .before .before .before .before
+
+inside : (f : tie.Else2) → fits (start f .args .request .command) ≡ true
+inside f = sym (f .before .fits2 .ensures) ∙ not-false _ (f .if2 .left)
 
 returns : tie.Need-returns
 returns c =
@@ -39,10 +48,8 @@ is-absent-requires c κs = search needs
 returns-3 : tie.Need-returns-3
 returns-3 c =
     let k = c .before .before in
-    let f = k .before .before in
-    let a = f .before .before .before .before .args in
-    promised (query-named (a .request) (now (a .buf)) (omega arith)
-    (sym (f .before .fits2 .ensures) ∙ not-false _ (f .if2 .left))
+    let a = start (k .before .before) .args in
+    promised (query-named (a .request) (now (a .buf)) (omega arith) (inside (k .before .before))
     (sym (k .before .is-query .ensures) ∙ k .if3 .taken)
     (sym (c .before .is-absent .ensures) ∙ not-true _ (c .if4 .taken)))
 
@@ -57,10 +64,8 @@ returns-4 c =
     let w = c .before .before in
     let i = w .before .before in
     let k = i .before .before in
-    let f = k .before .before in
-    let a = f .before .before .before .before .args in
-    promised (query-written (a .request) (now (a .buf)) (omega arith)
-    (sym (f .before .fits2 .ensures) ∙ not-false _ (f .if2 .left))
+    let a = start (k .before .before) .args in
+    promised (query-written (a .request) (now (a .buf)) (omega arith) (inside (k .before .before))
     (sym (k .before .is-query .ensures) ∙ k .if3 .taken)
     (sym (i .before .is-absent .ensures) ∙ not-false _ (i .if4 .left))
     (w .write-query .ensures))
@@ -71,17 +76,13 @@ is-ident-requires c κs = search needs
 returns-5 : tie.Need-returns-5
 returns-5 c =
     let k = c .before .before in
-    let f = k .before .before in
-    let a = f .before .before .before .before .args in
-    promised (full-named (a .request) (now (a .buf)) (omega arith)
-    (sym (f .before .fits2 .ensures) ∙ not-false _ (f .if2 .left))
+    let a = start (k .before .before) .args in
+    promised (full-named (a .request) (now (a .buf)) (omega arith) (inside (k .before .before))
     (sym (k .before .is-query .ensures) ∙ k .if3 .left)
     (sym (c .before .is-ident .ensures) ∙ not-true _ (c .if5 .taken)))
 
 content-of-requires : tie.Need-content-of-requires
-content-of-requires c κs =
-    let f = c .before .before .before .before in
-    sym (f .before .fits2 .ensures) ∙ not-false _ (f .if2 .left)
+content-of-requires c κs = inside (c .before .before .before .before)
 
 switch-requires : tie.Need-switch-requires
 switch-requires c κs = search needs
@@ -98,10 +99,8 @@ returns-6 c =
     let s = w .before .before in
     let i = s .before .before in
     let k = i .before .before in
-    let f = k .before .before in
-    let a = f .before .before .before .before .args in
-    promised (full-written (a .request) (now (a .buf)) (omega arith)
-    (sym (f .before .fits2 .ensures) ∙ not-false _ (f .if2 .left))
+    let a = start (k .before .before) .args in
+    promised (full-written (a .request) (now (a .buf)) (omega arith) (inside (k .before .before))
     (s .before .content-of .result) (s .switch .result)
     (sym (k .before .is-query .ensures) ∙ k .if3 .left)
     (sym (i .before .is-ident .ensures) ∙ not-false _ (i .if5 .left))

@@ -1,12 +1,14 @@
 -- `axis_cells` meets its contract: five axes, each with the polarity shifted down to it. Assumes nothing.
 use borrow.Author.Needs.{needs}
 use Prim.Native.Nat.{ℕ}
-use mathlib.Core.Bool.{Bool, false}
+use mathlib.Core.Bool.{Bool, true, false}
 use mathlib.Core.List.{List}
 use mathlib.Core.Path.{ap, _∙_}
+use lib.IntN.{pos}
 use lib.ListN.{getD}
-use Rattle.outputs.specs.Outputs.{sumOf}
-use Rattle.outputs.proofs.Parts.{rests-each, fires-each}
+use Rattle.laws.specs.Axes.{directed}
+use Rattle.outputs.specs.Outputs.{restOf, fireOf, sumOf}
+use Rattle.outputs.proofs.Parts.{cells-each}
 use Rattle.outputs.proofs.Small.{rests-small}
 use Rattle.outputs.proofs.axis_cells.Statement.{statement}
 use Rattle.outputs.proofs.axis_cells.Tie as tie
@@ -72,28 +74,30 @@ fire-requires-5 : tie.Need-fire-requires-5
 fire-requires-5 c κs = search needs
 
 sum-requires : tie.Need-sum-requires
+unfolding restOf
 sum-requires c κs =
-    let a = c .before .before .before .before .before .before .before .before .before .before .args in
     let r = c .before .before .before .before .before in
-    rests-small (a .switch) (a .polarity) (λ k. getD (a .t3) k false)
-    (rests-each (a .switch) (a .polarity) (λ k. getD (a .t3) k false)
+    let a = r .before .before .before .before .before .args in
+    let minus : ℕ → Bool = λ k. getD (a .t3) k false in
+    rests-small (a .switch) (a .polarity) minus (cells-each (a .switch) (a .polarity) minus (λ k. pos 0) false
     (r .before .before .before .before .rest .ensures) (r .before .before .before .rest2 .ensures)
     (r .before .before .rest3 .ensures) (r .before .rest4 .ensures) (r .rest5 .ensures))
 
 returns : tie.Need-returns
+unfolding restOf fireOf
 returns c =
     let w = c .before in
-    let a = w .before .before .before .before .before .before .before .before .before .before .args in
     let r = w .before .before .before .before .before in
+    let a = r .before .before .before .before .before .args in
     let minus : ℕ → Bool = λ k. getD (a .t3) k false in
-    let rests = rests-each (a .switch) (a .polarity) minus (r .before .before .before .before .rest .ensures)
-    (r .before .before .before .rest2 .ensures) (r .before .before .rest3 .ensures) (r .before .rest4 .ensures)
-    (r .rest5 .ensures) in (
+    let rests = cells-each (a .switch) (a .polarity) minus (λ k. pos 0) false
+    (r .before .before .before .before .rest .ensures) (r .before .before .before .rest2 .ensures)
+    (r .before .before .rest3 .ensures) (r .before .rest4 .ensures) (r .rest5 .ensures) in (
       rests,
       (
-        fires-each (a .switch) (a .polarity) minus (w .before .before .before .before .fire .ensures)
-            (w .before .before .before .fire2 .ensures) (w .before .before .fire3 .ensures) (w .before .fire4 .ensures)
-            (w .fire5 .ensures),
+        cells-each (a .switch) (a .polarity) minus (λ k. directed (minus k) 1) true
+            (w .before .before .before .before .fire .ensures) (w .before .before .before .fire2 .ensures)
+            (w .before .before .fire3 .ensures) (w .before .fire4 .ensures) (w .fire5 .ensures),
         c .sum .ensures ∙ ap (λ (l : List ℕ). sumOf (λ k. getD l k 0)) rests,
       ),
     )

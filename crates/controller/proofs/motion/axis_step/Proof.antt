@@ -1,12 +1,37 @@
 -- `axis_step` meets its contract: each return, by the tests and the answers that led there. Assumes nothing.
 use borrow.Author.Needs.{needs}
+use Prim.Native.Nat.{_<_}
+use mathlib.Core.Bool.{true}
+use mathlib.Core.Path.{_≡_, refl, _∙_}
 use native.Mathlib.Omega.{arith}
-use mathlib.Core.Path.{refl, _∙_}
 use borrow.Author.Tests.{not-true, not-false}
+use lib.ListN.{getD}
 use Rattle.laws.proofs.Pick.{on-false}
+use Rattle.controller.specs.Inner.Parts.{travelAt}
+use Rattle.controller.specs.Inner.Motion.{AxisFits}
 use Rattle.controller.proofs.StepLaws.{axis-short, axis-down, axis-up, axis-still}
 use Rattle.controller.proofs.motion.axis_step.Statement.{statement}
 use Rattle.controller.proofs.motion.axis_step.Tie as tie
+
+abbrev start : tie.After-share-step → tie.Start
+start s = s .before .before .before .before .before .before
+
+-- Where the code has taken the step: the axis fires, and has what it needs.
+fires : (s : tie.After-share-step) → start s .args .fires ≡ true
+fires s = not-false (start s .args .fires) (s .before .before .if1 .left)
+
+fit : (s : tie.After-share-step)
+    → AxisFits (start s .args .t2) (start s .args .t3) (start s .args .length) (start s .args .k)
+fit s = start s .pre .1 (fires s)
+
+-- Where it pulses, it is short of its distance.
+short : (t : tie.Then2)
+    → travelAt (start (t .before) .args .t3) (start (t .before) .args .k) .0
+    < getD (start (t .before) .args .t2 .distances) (start (t .before) .args .k) 0
+short t =
+    let s = t .before in
+    let a = start s .args in
+    axis-short (a .t2) (a .t3) (a .length) (a .k) _ (s .share-step .ensures) (fit s) (t .if2 .taken)
 
 mul-t : tie.Need-mul-t
 mul-t c = search needs
@@ -52,59 +77,38 @@ element-copy-out-if3 c = search needs
 add-t29 : tie.Need-add-t29
 add-t29 c =
     let t = c .before .before .before in
-    let s = t .before in
-    let q = s .before .before .before .before .before .before in
-    let f = q .pre .1 (not-false (q .args .fires) (s .before .before .if1 .left)) in
-    let h = axis-short (q .args .t2) (q .args .t3) (q .args .length) (q .args .k) (s .share-step .result)
-    (s .share-step .ensures) f (t .if2 .taken) in
-    omega (arith, h, f .short, f .bound)
+    omega (arith, short t, fit (t .before) .short, fit (t .before) .bound)
 
 sub-t31 : tie.Need-sub-t31
 sub-t31 c =
     let t = c .before .before .before .before in
-    let s = t .before in
-    let q = s .before .before .before .before .before .before in
-    let f = q .pre .1 (not-false (q .args .fires) (s .before .before .if1 .left)) in
-    let h = axis-short (q .args .t2) (q .args .t3) (q .args .length) (q .args .k) (s .share-step .result)
-    (s .share-step .ensures) f (t .if2 .taken) in
-    omega (arith, h, f .low (c .before .before .if3 .taken))
+    omega (arith, short t, fit (t .before) .low (c .before .before .if3 .taken))
 
 returns-2 : tie.Need-returns-2
 returns-2 c =
     let t = c .before .before .before .before in
     let s = t .before in
-    let q = s .before .before .before .before .before .before in
-    axis-down (q .args .t2) (q .args .t3) (q .args .length) (q .args .k) (s .share-step .result)
-    (s .share-step .ensures) (q .args .fires) (not-false (q .args .fires) (s .before .before .if1 .left))
+    let a = start s .args in
+    axis-down (a .t2) (a .t3) (a .length) (a .k) _ (s .share-step .ensures) _ (fires s)
     (t .if2 .taken) (c .before .before .if3 .taken)
 
 add-t33 : tie.Need-add-t33
 add-t33 c =
     let t = c .before .before .before in
-    let s = t .before in
-    let q = s .before .before .before .before .before .before in
-    let f = q .pre .1 (not-false (q .args .fires) (s .before .before .if1 .left)) in
-    let h = axis-short (q .args .t2) (q .args .t3) (q .args .length) (q .args .k) (s .share-step .result)
-    (s .share-step .ensures) f (t .if2 .taken) in
-    omega (arith, h, f .short, f .bound)
+    omega (arith, short t, fit (t .before) .short, fit (t .before) .bound)
 
 add-t35 : tie.Need-add-t35
 add-t35 c =
     let t = c .before .before .before .before in
-    let s = t .before in
-    let q = s .before .before .before .before .before .before in
-    let f = q .pre .1 (not-false (q .args .fires) (s .before .before .if1 .left)) in
-    let h = axis-short (q .args .t2) (q .args .t3) (q .args .length) (q .args .k) (s .share-step .result)
-    (s .share-step .ensures) f (t .if2 .taken) in
-    omega (arith, h, f .high (c .before .before .if3 .left), f .short, f .bound)
+    let f = fit (t .before) in
+    omega (arith, short t, f .high (c .before .before .if3 .left), f .short, f .bound)
 
 returns-3 : tie.Need-returns-3
 returns-3 c =
     let t = c .before .before .before .before in
     let s = t .before in
-    let q = s .before .before .before .before .before .before in
-    axis-up (q .args .t2) (q .args .t3) (q .args .length) (q .args .k) (s .share-step .result)
-    (s .share-step .ensures) (q .args .fires) (not-false (q .args .fires) (s .before .before .if1 .left))
+    let a = start s .args in
+    axis-up (a .t2) (a .t3) (a .length) (a .k) _ (s .share-step .ensures) _ (fires s)
     (t .if2 .taken) (c .before .before .if3 .left)
 
 idle-requires-2 : tie.Need-idle-requires-2
@@ -113,11 +117,9 @@ idle-requires-2 c κs = search needs
 returns-4 : tie.Need-returns-4
 returns-4 c =
     let s = c .before .before in
-    let q = s .before .before .before .before .before .before in
+    let a = start s .args in
     c .idle2 .ensures
-    ∙ axis-still (q .args .t2) (q .args .t3) (q .args .length) (q .args .k) (s .share-step .result)
-    (s .share-step .ensures) (q .args .fires) (not-false (q .args .fires) (s .before .before .if1 .left))
-    (c .before .if2 .left)
+    ∙ axis-still (a .t2) (a .t3) (a .length) (a .k) _ (s .share-step .ensures) _ (fires s) (c .before .if2 .left)
 
 pub axis-step-spec : {M : Type 1} → statement M
 axis-step-spec =

@@ -1,6 +1,7 @@
 -- `some_longer` meets its contract: each return, by the tests and the answers that led there. Assumes nothing.
 use borrow.Author.Needs.{needs}
 use Prim.Native.Nat.{ℕ}
+use mathlib.Core.Bool.{Bool}
 use mathlib.Core.Path.{refl}
 use borrow.Author.Tests.{lt-ltb, le-ltb}
 use lib.Dec.{ltb}
@@ -9,26 +10,27 @@ use Rattle.laws.proofs.Some.{some-0, some-1, some-2, some-3, some-4}
 use Rattle.line.proofs.distances.some_longer.Statement.{statement}
 use Rattle.line.proofs.distances.some_longer.Tie as tie
 
+abbrev over : tie.Start → ℕ → Bool
+over s k = ltb (s .args .length) (getD (s .args .t1) k 0)
+
 array-read-if1 : tie.Need-array-read-if1
 array-read-if1 c = search needs
 
 returns : tie.Need-returns
-returns c = some-0 (λ (k : ℕ). ltb (c .before .args .length) (getD (c .before .args .t1) k 0))
-    (lt-ltb _ _ (c .if1 .taken))
+returns c = some-0 (over (c .before)) (lt-ltb _ _ (c .if1 .taken))
 
 array-read-if2 : tie.Need-array-read-if2
 array-read-if2 c = search needs
 
 returns-2 : tie.Need-returns-2
-returns-2 c = some-1 (λ (k : ℕ). ltb (c .before .before .args .length) (getD (c .before .before .args .t1) k 0))
-    (le-ltb _ _ (c .before .if1 .left)) (lt-ltb _ _ (c .if2 .taken))
+returns-2 c = some-1 (over (c .before .before)) (le-ltb _ _ (c .before .if1 .left)) (lt-ltb _ _ (c .if2 .taken))
 
 array-read-if3 : tie.Need-array-read-if3
 array-read-if3 c = search needs
 
 returns-3 : tie.Need-returns-3
-returns-3 c = some-2 (λ (k : ℕ). ltb (c .before .before .before .args .length)
-    (getD (c .before .before .before .args .t1) k 0)) (le-ltb _ _ (c .before .before .if1 .left))
+returns-3 c =
+    some-2 (over (c .before .before .before)) (le-ltb _ _ (c .before .before .if1 .left))
     (le-ltb _ _ (c .before .if2 .left)) (lt-ltb _ _ (c .if3 .taken))
 
 array-read-if4 : tie.Need-array-read-if4
@@ -36,20 +38,16 @@ array-read-if4 c = search needs
 
 returns-4 : tie.Need-returns-4
 returns-4 c =
-    some-3 (λ (k : ℕ). ltb (c .before .before .before .before .args .length)
-    (getD (c .before .before .before .before .args .t1) k 0))
-    (le-ltb _ _ (c .before .before .before .if1 .left)) (le-ltb _ _ (c .before .before .if2 .left))
-    (le-ltb _ _ (c .before .if3 .left)) (lt-ltb _ _ (c .if4 .taken))
+    some-3 (over (c .before .before .before .before)) (le-ltb _ _ (c .before .before .before .if1 .left))
+    (le-ltb _ _ (c .before .before .if2 .left)) (le-ltb _ _ (c .before .if3 .left)) (lt-ltb _ _ (c .if4 .taken))
 
 array-read-result : tie.Need-array-read-result
 array-read-result c = search needs
 
 returns-5 : tie.Need-returns-5
 returns-5 c =
-    some-4 (λ (k : ℕ). ltb (c .before .before .before .before .args .length)
-    (getD (c .before .before .before .before .args .t1) k 0))
-    (le-ltb _ _ (c .before .before .before .if1 .left)) (le-ltb _ _ (c .before .before .if2 .left))
-    (le-ltb _ _ (c .before .if3 .left)) (le-ltb _ _ (c .if4 .left)) refl
+    some-4 (over (c .before .before .before .before)) (le-ltb _ _ (c .before .before .before .if1 .left))
+    (le-ltb _ _ (c .before .before .if2 .left)) (le-ltb _ _ (c .before .if3 .left)) (le-ltb _ _ (c .if4 .left)) refl
 
 pub some-longer-spec : {M : Type 1} → statement M
 some-longer-spec =

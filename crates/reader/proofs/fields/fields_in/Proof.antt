@@ -1,6 +1,6 @@
 -- The fields by the letter. Assumes nothing.
 use borrow.Author.Needs.{needs}
-use borrow.Author.Tests.{eq-eqb, ne-eqb}
+use Rattle.laws.proofs.Pick.{picks, tolds}
 use Rattle.reader.specs.Reader.{fieldsIn}
 use Rattle.reader.proofs.fields.fields_in.Statement.{statement}
 use Rattle.reader.proofs.fields.fields_in.Tie as tie
@@ -10,47 +10,29 @@ verdict-in-requires c κs = search needs
 
 returns : tie.Need-returns
 unfolding fieldsIn
-returns c = rw (eq-eqb _ _ (c .before .if1 .taken)) (c .verdict-in .ensures)
+returns c = search (picks, tolds) depth 9
 
 order-in-requires : tie.Need-order-in-requires
 order-in-requires c κs = search needs
 
 returns-2 : tie.Need-returns-2
 unfolding fieldsIn
-returns-2 c = rw (ne-eqb _ _ (c .before .before .if1 .left), eq-eqb _ _ (c .before .if2 .taken)) (c .order-in .ensures)
+returns-2 c = search (picks, tolds) depth 9
 
 place-in-requires : tie.Need-place-in-requires
 place-in-requires c κs = search needs
 
 returns-3 : tie.Need-returns-3
 unfolding fieldsIn
-returns-3 c =
-    rw (
-      ne-eqb _ _ (c .before .before .before .if1 .left),
-      ne-eqb _ _ (c .before .before .if2 .left),
-      eq-eqb _ _ (c .before .if3 .taken),
-    )
-    (c .place-in .ensures)
+returns-3 c = search (picks, tolds) depth 9
 
 returns-4 : tie.Need-returns-4
 unfolding fieldsIn
-returns-4 c =
-    rw (
-      ne-eqb _ _ (c .before .before .before .if1 .left),
-      ne-eqb _ _ (c .before .before .if2 .left),
-      ne-eqb _ _ (c .before .if3 .left),
-      eq-eqb _ _ (c .if4 .taken),
-    )
+returns-4 c = search (picks, tolds) depth 9
 
 returns-5 : tie.Need-returns-5
 unfolding fieldsIn
-returns-5 c =
-    rw (
-      ne-eqb _ _ (c .before .before .before .if1 .left),
-      ne-eqb _ _ (c .before .before .if2 .left),
-      ne-eqb _ _ (c .before .if3 .left),
-      ne-eqb _ _ (c .if4 .left),
-    )
+returns-5 c = search (picks, tolds) depth 9
 
 pub fields-in-spec : {M : Type 1} → statement M
 fields-in-spec =
