@@ -93,11 +93,12 @@ callsOf (x ∷ l) = callsIn x (callsOf l)
 abbrev pub pulseIn : TickAnswer → ℕ → ℤ
 pulseIn r k = getD (r .pulses) k (pos 0)
 
--- What the latest call answered for axis k: a byte answers no pulse. A stretch without a byte before its 0D is no call.
+-- The latest answer after some bytes: a byte answers no pulse, and without a byte it is the one before them.
 abbrev pub afterBytes : List ℕ → ℤ → ℤ
 afterBytes [] before = before
 afterBytes (b ∷ bs) before = pos 0
 
+-- What the latest call answered for axis k. A stretch of which no byte is taken is no call.
 unfoldable pub latestIn : List Answered → ℕ → ℤ
 latestIn [] k = pos 0
 latestIn (byte b entry exit r ∷ l) k = pos 0
@@ -136,8 +137,8 @@ pub record HoldsOf (s : ℕ) (p : PowerOn) (l : List Answered) : Type 0 where
   pub reached : Reachable (last p l)
   -- demand 3 is true of the list
   pub holds : (k : ℕ) → k < 5 → Holds s (callsOf l) k
-  -- its travels and positions are what `travels` and `positions` answer of the last controller, its latest answer the
-  -- `pulses` of the latest call
+  -- its travels and positions are what `travels` and `positions` answer of the last controller, its latest answer is
+  -- that of the latest call: the `pulses` of a tick, none of bytes
   pub figures : (ts : List Travel) → TravelsOf (last p l) ts
       → map (λ (t : Travel). t .0) ts ≡ each (travel s (callsOf l))
   pub places : (ps : List Position) → PositionsOf (last p l) ps → map positionOf ps ≡ each (position s (callsOf l))

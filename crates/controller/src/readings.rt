@@ -1,5 +1,5 @@
-// What a caller reads off a controller: travels, positions, the status word, two settings (paper 01, "Shares",
-// "Stops"). The only premise is that the controller is reachable.
+// What a caller reads off a controller: travels, positions, the status word, speed and slope (paper 01, "Shares",
+// "Stops", "Ramp"). The only premise is that the controller is reachable.
 ghost use mathlib.Core.List.{map};
 ghost use mathlib.Core.Path.{_≡_};
 ghost use Rattle.laws.specs.Axes.{each};

@@ -1,4 +1,4 @@
--- Five distances.
+-- Five distances compared, for number 14 and for the master picker (paper 01, "Turned away", "Host end and program").
 use Prim.Native.Nat.{ℕ}
 use mathlib.Core.Bool.{Bool}
 use mathlib.Core.List.{List}

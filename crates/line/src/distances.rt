@@ -1,4 +1,4 @@
-// Five distances, as distance lines set them (paper 01, "Shares").
+// Five distances compared, for number 14 and for the master picker (paper 01, "Turned away", "Host end and program").
 // Every function is total: it has no premise and states its result for every input. Assumes nothing.
 ghost use mathlib.Core.Path.{_≡_};
 ghost use Rattle.line.specs.Distances.{someLonger};

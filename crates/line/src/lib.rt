@@ -1,5 +1,5 @@
 // A received line judged (paper 01, "Lines" and "Turned away" 4 to 10; chapters 7 and 9): from its characters alone to
-// a command, or to the number that turns it away.
+// a command, or to the number that turns it away. Beside it what others ask of commands and of five distances.
 // Every public function is total: it has no premise and states its result for every input. Assumes nothing.
 ghost use Prim.Native.Nat.{_-_, min};
 ghost use mathlib.Core.Bool.{not};
