@@ -29,15 +29,19 @@ emergencyActive m = activeAt (m .settings .lowOn) (m .settings .highOn) (m .inpu
 abbrev pub sensorActive : Machine → Bool
 sensorActive m = activeAt (m .settings .lowOn) (m .settings .highOn) (m .inputs) 13
 
--- The watch count is full at 1,000,000 (4 s), and the watch setting has bit i.
+-- The full watch count (4 s).
+abbrev pub watchMost : ℕ
+watchMost = 1000000
+
+-- The watch count is full, and the watch setting has bit i.
 abbrev pub watchFull : Machine → ℕ → Bool
-watchFull m i = leb 1000000 (m .watch) && bit (m .settings .watch) i
+watchFull m i = leb watchMost (m .watch) && bit (m .settings .watch) i
 
 -- ---- The tick order, up to the dwell.
 
--- Raise the watch count by 1 up to 1,000,000.
+-- Raise the watch count by 1 up to the full one.
 abbrev pub raisesWatch : Machine → Machine
-raisesWatch m = withWatch m (min 1000000 (m .watch + 1))
+raisesWatch m = withWatch m (min watchMost (m .watch + 1))
 
 -- If emergency is active, hold it.
 abbrev pub holds : Machine → Machine

@@ -4,6 +4,7 @@ use mathlib.Core.Bool.{Bool, false, cond, not, _&&_, _||_}
 use lib.Dec.{leb, eqb}
 use lib.Bits.{bitAnd}
 use Rattle.inputs.specs.Inputs.{activeAt}
+use Rattle.machine.specs.Stops.{watchMost}
 use Rattle.controller.specs.declared.state.Hot.{Hot}
 use Rattle.controller.specs.declared.state.Settings.{Settings}
 use Rattle.controller.specs.declared.state.Plan.{Plan}
@@ -18,13 +19,13 @@ use Rattle.controller.specs.Inner.Parts.{
   blockedIn,
 }
 
--- The watch count, up to 1,000,000.
+-- The watch count, up to the full one.
 abbrev pub raisedOf : ℕ → ℕ
-raisedOf watch = min 1000000 (watch + 1)
+raisedOf watch = min watchMost (watch + 1)
 
 -- The count is full and the setting, shifted down to its bit, watches.
 abbrev pub isFullOf : ℕ → ℕ → Bool
-isFullOf watch setting = leb 1000000 watch && eqb (setting % 2) 1
+isFullOf watch setting = leb watchMost watch && eqb (setting % 2) 1
 
 -- By the watch count, whether emergency is held, and whether the general outputs are cleared.
 abbrev pub takesGiven : Hot → ℕ → ℕ → Bool → Bool → Hot
