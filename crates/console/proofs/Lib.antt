@@ -1,1 +1,5 @@
 mod RoomLaws
+mod LineLaws
+mod FittingLaws
+mod FillLaws
+mod FilledLaws

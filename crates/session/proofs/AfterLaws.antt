@@ -34,6 +34,12 @@ unfolding after
 after-lives [] x l = l
 after-lives (b ∷ bs) x l = after-lives bs (taken x b .bench) (taken-on x b l)
 
+-- What holds of every bench that a session holds holds of the bench after the bytes that led to it.
+pub runs-after : (s t : Session) (l : List ℕ) (P : Bench → Type 0) → Runs s (λ x. t ≡ heldBench (after x l)) → Runs t P
+    → Runs s (λ x. P (after x l))
+runs-after s t l P past next w h p e =
+    runs-at t P next _ (after-lives l _ (rests-lives w h p)) (sym (past w h p e))
+
 -- ---- the bytes of a slice, one after another
 
 pub after-none : (s : Session) (bs : List ℕ) → Runs s (λ x. s ≡ heldBench (after x (take 0 bs)))
@@ -46,12 +52,11 @@ pub after-one : (s t r : Session) (bs : List ℕ) (i : ℕ) → i < length bs
     → Runs t (λ x. r ≡ heldBench (taken x (getD bs i 0) .bench))
     → Runs s (λ x. r ≡ heldBench (after x (take (i + 1) bs)))
 after-one s t r bs i k past next w h p e =
-    runs-at t (λ x. r ≡ heldBench (taken x (getD bs i 0) .bench)) next _
-    (after-lives (take i bs) _ (rests-lives w h p)) (sym (past w h p e))
+    runs-after s t (take i bs) (λ x. r ≡ heldBench (taken x (getD bs i 0) .bench)) past next w h p e
     ∙ ap heldBench (sym (after-next _ bs i k))
 
 -- Some bytes more.
-after-both : (l k : List ℕ) (x : Bench) → after (after x l) k ≡ after x (l ++ k)
+pub after-both : (l k : List ℕ) (x : Bench) → after (after x l) k ≡ after x (l ++ k)
 unfolding after
 after-both [] k x = refl
 after-both (b ∷ l) k x = after-both l k (taken x b .bench)
@@ -60,8 +65,7 @@ pub after-more : (s t r : Session) (bs : List ℕ) (i n : ℕ) → Runs s (λ x.
     → Runs t (λ x. r ≡ heldBench (after x (take n (drop i bs))))
     → Runs s (λ x. r ≡ heldBench (after x (take (i + n) bs)))
 after-more s t r bs i n past next w h p e =
-    runs-at t (λ x. r ≡ heldBench (after x (take n (drop i bs)))) next _
-    (after-lives (take i bs) _ (rests-lives w h p)) (sym (past w h p e))
+    runs-after s t (take i bs) (λ x. r ≡ heldBench (after x (take n (drop i bs)))) past next w h p e
     ∙ ap heldBench (after-both (take i bs) (take n (drop i bs)) _
     ∙ ap (after (record { machine = state w h; place = p })) (sym (take-add i n bs)))
 

@@ -8,7 +8,8 @@ mod PrintLaws
 mod PartLaws
 mod PlaceLaws
 pub mod SessionLaws
+pub mod PrintedLaws
 mod LineLaws
 pub mod AfterLaws
-mod StretchLaws
+pub mod StretchLaws
 mod GatheredLaws

@@ -13,6 +13,7 @@ use Rattle.machine.specs.Calls.{Call, byte, bytes, run, from}
 use Rattle.session.specs.Asked.{askedOf}
 use Rattle.session.specs.Session.{sending, asking, Answer, shown, buffer, asks}
 use Rattle.session.specs.Lines.{prints, atLine, replies, goesIn, doneBy, lineDone, isLine, Lines}
+use Rattle.session.proofs.PrintedLaws.{prints-parts}
 
 -- A character of a line is no line feed, and the rest is a line.
 char : (t r : Bool) → not t && r ≡ true → t ≡ false
@@ -124,4 +125,4 @@ last-line m c cs e = rw (char (eqb c 10) (isLine cs) e) (by (eqb c 84))
 
 pub lines : Lines
 unfolding prints
-lines = record { nothing = λ m. refl; whole = whole-line; last = last-line }
+lines = record { parts = prints-parts; nothing = λ m. refl; whole = whole-line; last = last-line }

@@ -17,6 +17,11 @@ unfoldable pub prints : Bench → List ℕ → List ℕ
 prints x [] = finished x .printed
 prints x (b ∷ bs) = taken x b .printed ++ prints (taken x b .bench) bs
 
+-- What some bytes of an input print, taken one after another: the same without the end of the input.
+unfoldable pub printedBy : Bench → List ℕ → List ℕ
+printedBy x [] = []
+printedBy x (b ∷ bs) = taken x b .printed ++ printedBy (taken x b .bench) bs
+
 -- The bench after an input, or a part of it, taken byte by byte.
 unfoldable pub after : Bench → List ℕ → Bench
 after x [] = x
@@ -56,8 +61,10 @@ abbrev pub isLine : List ℕ → Bool
 isLine [] = true
 isLine (c ∷ cs) = not (eqb c 10) && isLine cs
 
--- These three say what is printed for every input.
+-- The first says that an input prints what its bytes print and then what its end does; the other three say what is
+-- printed for every input.
 pub record Lines : Type 0 where
+  pub parts : (x : Bench) (bs : List ℕ) → prints x bs ≡ printedBy x bs ++ finished (after x bs) .printed
   pub nothing : (m : Machine) → prints (atLine m) [] ≡ []
   -- a line, its line feed, and the rest of the input
   pub whole : (m : Machine) (cs rest : List ℕ) → isLine cs ≡ true

@@ -1,25 +1,24 @@
--- All bytes of a slice, each once and in order. The invariant: calls made the session, it is the bench after the bytes
--- so far, and what waits to be written stands in the buffer. The measure is the bytes left. Assumes nothing.
-use Prim.Native.Nat.{ℕ, _-_, _≤_}
+-- All bytes of a slice, each once and in order. The invariant: calls made the session, and it is the bench after the
+-- bytes so far. The measure is the bytes left. Assumes nothing.
+use Prim.Native.Nat.{_-_, _≤_}
 use borrow.Author.Needs.{needs}
 use native.Mathlib.Omega.{arith}
-use mathlib.Core.List.{List}
-use mathlib.Core.Path.{_≡_, sym, subst, _∙_}
+use mathlib.Core.Path.{_≡_, sym, _∙_}
 use lib.ListN.{length, take}
 use Rattle.session.specs.Lines.{after}
 use Rattle.session.specs.Session.{heldBench, Running, Runs}
 use Rattle.session.proofs.AfterLaws.{after-none, after-more, after-all}
-use Rattle.console.proofs.RoomLaws.{part-length, part-rest}
+use Rattle.console.proofs.FilledLaws.{filled-session, filled-front, filled-end, filled-some}
 use Rattle.console.proofs.pass_all.Statement.{statement}
 use Rattle.console.proofs.pass_all.Tie as tie
 
 abbrev Inv-loop : tie.InvT-loop
-Inv-loop bytes out₀ session₀ waiting₀ i₀ out session waiting i =
+Inv-loop bytes out₀ session₀ written₀ i₀ out session written i =
     (i ≤ length bytes) × (65536 ≡ length out) × Running session
     × Runs session₀ (λ x. session ≡ heldBench (after x (take i bytes)))
 
 abbrev μ-loop : tie.MeasureT-loop
-μ-loop bytes out₀ session₀ waiting₀ i₀ out session waiting i = length bytes - i
+μ-loop bytes out₀ session₀ written₀ i₀ out session written i = length bytes - i
 
 large-buffer-requires : tie.Need-large-buffer-requires Inv-loop μ-loop
 large-buffer-requires c κs = search needs
@@ -29,86 +28,97 @@ loop-holds c =
     let a = c .before .before .args in
     (omega arith, c .large-buffer .ensures, c .before .before .pre, after-none (a .s) (a .bytes .now))
 
-slice-aggregate-make-room : tie.Need-slice-aggregate-make-room Inv-loop μ-loop
-slice-aggregate-make-room c = search needs
+slice-aggregate-fill : tie.Need-slice-aggregate-fill Inv-loop μ-loop
+slice-aggregate-fill c = search needs
 
-make-room-requires : tie.Need-make-room-requires Inv-loop μ-loop
-make-room-requires c κs = search needs
+sub-fill : tie.Need-sub-fill Inv-loop μ-loop
+sub-fill c = search needs
 
-slice-aggregate-pass-line : tie.Need-slice-aggregate-pass-line Inv-loop μ-loop
-slice-aggregate-pass-line c = search needs
+part-fill-start : tie.Need-part-fill-start Inv-loop μ-loop
+part-fill-start c = search needs
 
-sub-pass-line : tie.Need-sub-pass-line Inv-loop μ-loop
-sub-pass-line c = search needs
+part-fill-end : tie.Need-part-fill-end Inv-loop μ-loop
+part-fill-end c = search needs
 
-part-pass-line-start : tie.Need-part-pass-line-start Inv-loop μ-loop
-part-pass-line-start c = search needs
+fill-requires : tie.Need-fill-requires Inv-loop μ-loop
+fill-requires c κs = c .before .before .before .loop .inv .2
 
-part-pass-line-end : tie.Need-part-pass-line-end Inv-loop μ-loop
-part-pass-line-end c = search needs
-
-pass-line-requires : tie.Need-pass-line-requires Inv-loop μ-loop
-pass-line-requires c κs =
-    let l = c .before .before .before .before .before .loop in
-    (l .inv .2, omega (arith, l .inv .1, c .before .before .make-room .ensures))
-
-add-i : tie.Need-add-i Inv-loop μ-loop
-add-i c =
-    let p = c .before .before .before in
-    let l = p .before .before .before .before .before .before in
+add-end : tie.Need-add-end Inv-loop μ-loop
+add-end c =
+    let f = c .before .before in
+    let l = f .before .before .before .before in
+    let a = l .before .before .before in
     omega (
       arith,
-      p .pass-line .ensures .1 .1 .0 .0,
-      part-length (l .before .before .before .args .bytes .now) (l .loop .i),
-      l .loop .inv .0,
+      filled-end (l .loop .session) (f .fill .result) (f .fill .last .1 .0) (l .loop .out) (a .args .bytes .now)
+          (l .loop .i) (f .fill .ensures .1) (l .loop .inv .2) (l .loop .inv .0),
+      a .good .1 .0 .0,
+    )
+
+slice-aggregate-front : tie.Need-slice-aggregate-front Inv-loop μ-loop
+slice-aggregate-front c = search needs
+
+front-requires : tie.Need-front-requires Inv-loop μ-loop
+front-requires c κs = search needs
+
+sub-print : tie.Need-sub-print Inv-loop μ-loop
+sub-print c = search needs
+
+part-print-start : tie.Need-part-print-start Inv-loop μ-loop
+part-print-start c = search needs
+
+part-print-end : tie.Need-part-print-end Inv-loop μ-loop
+part-print-end c =
+    let f = c .before .before .before .before in
+    let l = f .before .before .before .before in
+    filled-end (l .loop .session) (f .fill .result) (f .fill .last .1 .0) (l .loop .out)
+    (l .before .before .before .args .bytes .now) (l .loop .i) (f .fill .ensures .1) (l .loop .inv .2)
+    (l .loop .inv .0)
+
+print-requires : tie.Need-print-requires Inv-loop μ-loop
+print-requires c κs =
+    let f = c .before .before .before .before .before in
+    let l = f .before .before .before .before in (
+      l .loop .inv .2,
+      λ w h p e. c .before .front .ensures
+          ∙ filled-front (l .loop .session) (f .fill .result) (f .fill .last .1 .0) (l .loop .out)
+          (l .before .before .before .args .bytes .now) (l .loop .i) (f .fill .ensures .1) (f .fill .kept .1 .0)
+          w h p e,
     )
 
 loop-less : tie.Need-loop-less Inv-loop μ-loop
 loop-less c =
-    let p = c .before .before .before in
-    let t = p .before .before .before .before .before in
-    let l = t .before in
-    let bs = l .before .before .before .args .bytes .now in
-    let n = part-length bs (l .loop .i) in
+    let f = c .before .before .before .before .before .before .before in
+    let l = f .before .before .before .before in
+    let t = f .before .before .before .loop-test .taken in
     omega (
       arith,
-      p .pass-line .ensures .1 .1 .0 .1 (omega (arith, n, t .loop-test .taken)),
-      p .pass-line .ensures .1 .1 .0 .0,
-      n,
-      t .loop-test .taken,
+      filled-some (l .loop .session) (f .fill .result) (f .fill .last .1 .0) (l .loop .out)
+          (l .before .before .before .args .bytes .now) (l .loop .i) (f .fill .ensures .1) (l .loop .inv .2)
+          (omega (arith, l .loop .inv .1)) t,
+      t,
     )
 
 loop-again : tie.Need-loop-again Inv-loop μ-loop
 loop-again c =
-    let p = c .before .before .before in
-    let l = p .before .before .before .before .before .before in
+    let f = c .before .before .before .before .before .before .before in
+    let l = f .before .before .before .before in
     let a = l .before .before .before .args in
-    let bs = a .bytes .now in (
-      omega (
-        arith,
-        p .pass-line .ensures .1 .1 .0 .0,
-        part-length bs (l .loop .i),
-        l .loop .inv .0,
-      ),
-      l .loop .inv .1 ∙ sym (p .pass-line .kept .1 .0),
-      p .pass-line .ensures .0,
-      after-more (a .s) (l .loop .session) (p .pass-line .result .session) bs (l .loop .i)
-          (p .pass-line .result .count) (l .loop .inv .3)
-          (subst (λ (d : List ℕ). Runs (l .loop .session)
-          (λ x. p .pass-line .result .session ≡ heldBench (after x (take (p .pass-line .result .count) d))))
-          (part-rest bs (l .loop .i)) (p .pass-line .ensures .1 .1 .1)),
+    let bs = a .bytes .now in
+    let r = f .fill .result in
+    let o = f .fill .last .1 .0 in (
+      filled-end (l .loop .session) r o (l .loop .out) bs (l .loop .i) (f .fill .ensures .1) (l .loop .inv .2)
+          (l .loop .inv .0),
+      l .loop .inv .1 ∙ sym (f .fill .kept .1 .0),
+      f .fill .ensures .0,
+      after-more (a .s) (l .loop .session) (r .session) bs (l .loop .i) (r .count) (l .loop .inv .3)
+          (filled-session (l .loop .session) r o (l .loop .out) bs (l .loop .i) (f .fill .ensures .1)),
     )
-
-slice-aggregate-print : tie.Need-slice-aggregate-print Inv-loop μ-loop
-slice-aggregate-print c = search needs
-
-print-requires : tie.Need-print-requires Inv-loop μ-loop
-print-requires c κs = search needs
 
 returns : tie.Need-returns Inv-loop μ-loop
 returns c =
-    let l = c .before .before .before .loop in
-    let a = c .before .before .before .before .before .before .args in
+    let l = c .before .loop in
+    let a = c .before .before .before .before .args in
     let n : l .i ≡ length (a .bytes .now) = omega arith in
     (l .inv .2, after-all (a .s) (l .session) (a .bytes .now) (l .i) n (l .inv .3))
 
@@ -120,16 +130,18 @@ pass-all-spec =
     μ-loop
     large-buffer-requires
     loop-holds
-    slice-aggregate-make-room
-    make-room-requires
-    slice-aggregate-pass-line
-    sub-pass-line
-    part-pass-line-start
-    part-pass-line-end
-    pass-line-requires
-    add-i
+    slice-aggregate-fill
+    sub-fill
+    part-fill-start
+    part-fill-end
+    fill-requires
+    add-end
+    slice-aggregate-front
+    front-requires
+    sub-print
+    part-print-start
+    part-print-end
+    print-requires
     loop-less
     loop-again
-    slice-aggregate-print
-    print-requires
     returns)

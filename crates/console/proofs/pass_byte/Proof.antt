@@ -1,10 +1,8 @@
 -- One byte of the input. Assumes nothing.
 use borrow.Author.Needs.{needs}
-use Prim.Native.Nat.{_-_}
 use native.Mathlib.Omega.{arith}
 use denote.Ref.{now}
-use lib.ListN.{length, take, drop}
-use Rattle.console.proofs.RoomLaws.{room-bench, room-length, part-length}
+use Rattle.console.proofs.RoomLaws.{room-bench, room-stands, room-length}
 use Rattle.console.proofs.pass_byte.Statement.{statement}
 use Rattle.console.proofs.pass_byte.Tie as tie
 
@@ -24,11 +22,9 @@ add-t8 : tie.Need-add-t8
 add-t8 c =
     let t = c .before .before .before .before .take in
     let q = c .before .before .before .before .before .before .before in
-    let o = now (q .args .out) in
-    let d = take (length o - q .args .at) (drop (q .args .at) o) in
-    let k = room-length (q .args .s) (q .args .b) (t .result) (t .last .1 .0) d (t .ensures .0) (q .pre .0)
-    (t .kept .1 .0) in
-    record { fits = omega (arith, k, part-length o (q .args .at), q .pre .1) }
+    let k = room-length (q .args .s) (q .args .b) (q .args .at) (t .result) (t .last .1 .0) (now (q .args .out))
+    (t .ensures .0) (q .pre .1) (q .pre .0) (t .kept .1 .0) in
+    record { fits = omega (arith, k) }
 
 same-length : tie.Need-same-length
 same-length c = search needs
@@ -38,15 +34,15 @@ returns c =
     let t = c .before .before .before .before .take in
     let q = c .before .before .before .before .before .before .before in
     let o = now (q .args .out) in
-    let d = take (length o - q .args .at) (drop (q .args .at) o) in
-    let l = part-length o (q .args .at) in
-    let k = room-length (q .args .s) (q .args .b) (t .result) (t .last .1 .0) d (t .ensures .0) (q .pre .0)
-    (t .kept .1 .0) in (
+    let room = q .pre .1 in (
       t .ensures .1,
       (
-        omega (arith, k, l, q .pre .1),
-        room-bench (q .args .s) (q .args .b) (t .result) (t .last .1 .0) d (t .ensures .0)
-            (omega (arith, l, q .pre .1)),
+        room-length (q .args .s) (q .args .b) (q .args .at) (t .result) (t .last .1 .0) o (t .ensures .0) room
+            (q .pre .0) (t .kept .1 .0),
+        (
+          room-bench (q .args .s) (q .args .b) (q .args .at) (t .result) (t .last .1 .0) o (t .ensures .0) room,
+          room-stands (q .args .s) (q .args .b) (q .args .at) (t .result) (t .last .1 .0) o (t .ensures .0) room,
+        ),
       ),
     )
 
