@@ -50,10 +50,11 @@ def altered(crate, edited):
     """For each place in src/ that an edit alters the functions of which one must be refused."""
     for source in sorted((edited / "src").glob("*.rt")):
         text = source.read_text(encoding="utf-8")
-        names = list(functions(text))
+        lines, names = text.splitlines(), list(functions(text))
         before = (crate / "src" / source.name).read_text(encoding="utf-8").splitlines()
-        for tag, _, _, begin, end in difflib.SequenceMatcher(None, before, text.splitlines(), False).get_opcodes():
-            for name in {names[at] or "no function" for at in range(begin, max(end, begin + 1)) if tag != "equal"}:
+        for tag, _, _, begin, end in difflib.SequenceMatcher(None, before, lines, False).get_opcodes():
+            places = range(begin, max(end, begin + 1)) if tag != "equal" else []
+            for name in {names[at] or "no function" for at in places if not lines[at].startswith("use ")}:
                 yield set(users(edited, name)) if name.isupper() else {path(source, name)}
 
 
