@@ -1,10 +1,10 @@
 #!/usr/bin/env python3
 """One line, its whole reply, then the next line: ci/interactive.py [program ...], by default target/bin/bench
 
-Lines and replies are those of stored sessions (ci/outputs.sh holds them to the reference). A program that waits for more
-input before it answers, or ends before its input does, fails here. Every seventh line comes in two pieces. The last line
-of a session comes without its line feed, and is answered once the input is closed. Then what docs/PROTOCOL.md says of an
-output that is closed and of an input that is not ready. Exit 1, naming what was to come and what came.
+Lines and replies are those of stored sessions (ci/outputs.sh holds them to the reference). A program that waits for
+more input before it answers, or ends before its input does, fails here. Every seventh line comes in two pieces. The
+last line of a session comes without its line feed, and is answered once the input is closed. Then what docs/PROTOCOL.md
+says of an output that is closed and of an input that is not ready. Exit 1, naming what was to come and what came.
 """
 import os
 import select

@@ -41,7 +41,8 @@ def main():
         rows += asked is not None
         if asked and asked not in pairs:
             wrong.append(f"line {number}: {asked[0]} with {asked[1]} stands in no session")
-    print("\n".join([f"docs/PROTOCOL.md: {w}" for w in wrong] + [f"protocol: {len(told)} requests, {rows} rows, {len(wrong)} wrong"]))
+    total = f"protocol: {len(told)} requests, {rows} rows, {len(wrong)} wrong"
+    print("\n".join([f"docs/PROTOCOL.md: {w}" for w in wrong] + [total]))
     return 1 if wrong or rows == 0 else 0
 
 

@@ -1,8 +1,9 @@
 #!/usr/bin/env python3
 """Gives the bench program a terminal line of its own: docs/terminal.py [program]
 
-Prints the name of a pty. A terminal program (screen, minicom, picocom) that opens it is connected to the bench program:
-the Enter key, which sends 0D, ends a line, and each line feed that the bench prints is sent as 0D 0A. Control-C ends it.
+Prints the name of a pty. A terminal program (screen, minicom, picocom) that opens it is connected to the bench
+program: the Enter key, which sends 0D, ends a line, and each line feed that the bench prints is sent as 0D 0A.
+Control-C ends it.
 """
 import os
 import subprocess
