@@ -3,6 +3,7 @@
 // Its stored test is the session that paper 01 prints. Assumes nothing beyond the contracts of the C functions that
 // read and write.
 ghost use Rattle.session.specs.Session.{Running};
+use block::REPLY_ROOM;
 use libc::STDERR_FILENO;
 use libc::STDIN_FILENO;
 use libc::STDOUT_FILENO;
@@ -93,7 +94,7 @@ fn read_all(s: Session) -> Turn
 fn finish(s: Session) -> bool
     requires { ⌜ Running s ⌝ }
 {
-    let mut buf = [0u8; 120];
+    let mut buf = [0u8; REPLY_ROOM];
     let taken = s.finish(&mut buf);
     io::write_all(STDOUT_FILENO, block::front(&buf, taken.length))
 }

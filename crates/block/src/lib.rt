@@ -8,6 +8,9 @@ ghost use lib.ListN.{length};
 ghost use Rattle.block.specs.Block.{blockOf, rowOf, laid, laidLength, over, put, frontOf, lengthWith};
 use digits::Ident;
 
+// The least reply buffer: room for twelve blocks with an identification.
+pub const REPLY_ROOM: usize = 120;
+
 // What a block says: a letter, a switch (low four bits), a number (low 24 bits), and the identification if given.
 pub struct Block {
     pub letter: u8,

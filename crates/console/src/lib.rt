@@ -8,11 +8,9 @@ ghost use lib.ListN.{length, take};
 ghost use Rattle.session.specs.Lines.{after, printedBy};
 ghost use Rattle.session.specs.Session.{taken, heldBench, Running, Runs};
 ghost use Rattle.console.specs.Console.{Stands, lineLength, Fills};
+use block::REPLY_ROOM;
 use libc::STDOUT_FILENO;
 use session::Session;
-
-// The buffer that a session asks for.
-const ROOM: usize = 120;
 
 // The session after some bytes, and where what they print ends in the buffer.
 struct Printed {
@@ -107,7 +105,7 @@ fn fill(s: Session, out: &mut [u8], bytes: &[u8]) -> Line
     let mut at = 0;
     let mut i = 0;
     while i < bytes.len() {
-        if out.len() - at < ROOM {
+        if out.len() - at < REPLY_ROOM {
             break;
         }
         let passed = pass_line(session, out, at, &bytes[i..]);

@@ -36,15 +36,15 @@ use Rattle.machine.specs.Steps.{
 use Rattle.machine.specs.Commands.{number}
 use Rattle.machine.specs.Replies as machine
 use Rattle.machine.proofs.UnalteredLaws.{number-line}
-use Rattle.machine.proofs.FitLaws.{Fits}
+use Rattle.machine.proofs.Fits.{Fits, fits-same}
 use Rattle.controller.specs.declared.state.Controller.{Controller}
 use Rattle.controller.specs.declared.state.ByteAnswer.{ByteAnswer}
 use Rattle.controller.specs.Held.{held, heldByte}
 use Rattle.controller.specs.Inner.Start.{StartFits}
 use Rattle.controller.specs.Inner.Orders.{zeroWatchOf}
 use Rattle.controller.specs.Inner.Status.{readingsOf}
-use Rattle.controller.specs.Inner.LineEnd.{refusedOf, refusalTo, obeyedOf, replyTo, linedOf, lineReply}
-use Rattle.controller.specs.Inner.Power.{lineWith}
+use Rattle.controller.specs.Inner.LineEnd.{refuseOf, refuseReply, obeyOf, tellReply, linedOf, linedReply}
+use Rattle.controller.specs.Inner.Power.{withLineOf}
 use Rattle.controller.proofs.StartLaws.{start-fits}
 use Rattle.controller.proofs.ByteLaws.{does-is, turned-is, number-is, reply-is}
 
@@ -64,33 +64,27 @@ unfolding HeardFits
 judged-fits l b silent ident j e = subst HeardFits e (heard-fits l b)
 
 heard-fit : (m : Machine) (b : ℕ) → Fits m → Fits (heardBy m b)
-heard-fit m b f = record {
-  settings = f .settings;
-  next = f .next;
-  move = f .move;
-  places = f .places;
-  pause = f .pause;
-}
+heard-fit m b f = fits-same m _ f refl refl refl refl refl
 
 -- A line, answered by the held machine.
 lined-answer : (m : Machine) (b : ℕ) (silent : Bool) (ident : Ident) (j : Judged) → Fits (heardBy m b) → JudgedFits j
     → (linedOf (held (heardBy m b)) silent ident j ≡ heldByte (answered m b (decided m silent ident j)))
-    × (lineReply (held (heardBy m b)) silent ident j ≡ answered m b (decided m silent ident j) .reply)
+    × (linedReply (held (heardBy m b)) silent ident j ≡ answered m b (decided m silent ident j) .reply)
 lined-answer m b silent ident (Refused n) f h = (
   (λ i. record {
     controller = turned-is (heardBy m b) n i;
-    length = length (refusalTo (held (heardBy m b)) silent ident n);
+    length = length (refuseReply (held (heardBy m b)) silent ident n);
     number = n;
   }),
   refl,
 )
 lined-answer m b silent ident (Accepted c digits) f h =
     subst (λ (n : ℕ).
-    (cond (eqb n 0) (obeyedOf (held (heardBy m b)) silent ident c digits)
-    (refusedOf (held (heardBy m b)) silent ident n)
+    (cond (eqb n 0) (obeyOf (held (heardBy m b)) silent ident c digits)
+    (refuseOf (held (heardBy m b)) silent ident n)
     ≡ heldByte (answered m b (decided m silent ident (Accepted c digits))))
-    × (cond (eqb n 0) (replyTo (held (heardBy m b)) silent ident c digits)
-    (refusalTo (held (heardBy m b)) silent ident n)
+    × (cond (eqb n 0) (tellReply (held (heardBy m b)) silent ident c digits)
+    (refuseReply (held (heardBy m b)) silent ident n)
     ≡ answered m b (decided m silent ident (Accepted c digits)) .reply))
     (sym (number-is (heardBy m b) c f (h .command) ∙ number-line m (receive (m .line) b .line) c))
     (by (eqb (number m c) 0))
@@ -100,11 +94,11 @@ lined-answer m b silent ident (Accepted c digits) f h =
     told t = ap (λ (x : List ℕ). cond t [] x) (reply-is (heardBy m b) c digits ident f (h .command))
 
     by : (t : Bool)
-        → (cond t (obeyedOf (held (heardBy m b)) silent ident c digits)
-        (refusedOf (held (heardBy m b)) silent ident (number m c))
+        → (cond t (obeyOf (held (heardBy m b)) silent ident c digits)
+        (refuseOf (held (heardBy m b)) silent ident (number m c))
         ≡ heldByte (answered m b (cond t (accepted c digits silent ident) (refused (number m c) silent ident))))
-        × (cond t (replyTo (held (heardBy m b)) silent ident c digits)
-        (refusalTo (held (heardBy m b)) silent ident (number m c))
+        × (cond t (tellReply (held (heardBy m b)) silent ident c digits)
+        (refuseReply (held (heardBy m b)) silent ident (number m c))
         ≡ answered m b (cond t (accepted c digits silent ident) (refused (number m c) silent ident)) .reply)
     by true = (
       (λ i. record {
@@ -117,7 +111,7 @@ lined-answer m b silent ident (Accepted c digits) f h =
     by false = (
       (λ i. record {
         controller = turned-is (heardBy m b) (number m c) i;
-        length = length (refusalTo (held (heardBy m b)) silent ident (number m c));
+        length = length (refuseReply (held (heardBy m b)) silent ident (number m c));
         number = number m c;
       }),
       refl,
@@ -137,10 +131,10 @@ module _ (m : Machine) (b : ℕ) (d : List ℕ) (f : Fits m) (self : Controller)
       ((λ i. record { controller = sym e i; length = 0; number = 2 }), sym (over-nil d))
 
   module _ (h : 120 ≤ length d) (taken : Taken) (q : taken ≡ heldTaken (receive (m .line) b)) (c : Controller)
-      (p : c ≡ lineWith self (taken .next)) where
+      (p : c ≡ withLineOf self (taken .next)) where
     -- The controller that has heard the byte.
     pub heard-is : c ≡ held (heardBy m b)
-    heard-is = p ∙ (λ i. lineWith (sym e i) (q i .next))
+    heard-is = p ∙ (λ i. withLineOf (sym e i) (q i .next))
 
     pub heard-start : StartFits (c .cold .next) (c .hot .counters)
     heard-start =
@@ -166,12 +160,12 @@ module _ (m : Machine) (b : ℕ) (d : List ℕ) (f : Fits m) (self : Controller)
         judged-fits (m .line) b silent ident j (sym (ap (λ (y : Taken). y .heard) q) ∙ k)
 
     pub byte-lined : (silent : Bool) (ident : Ident) (j : Judged) (r : ByteAnswer) (x : List ℕ)
-        → taken .heard ≡ Line silent ident j → r ≡ linedOf c silent ident j → x ≡ over (lineReply c silent ident j) d
+        → taken .heard ≡ Line silent ident j → r ≡ linedOf c silent ident j → x ≡ over (linedReply c silent ident j) d
         → (r ≡ heldByte (byteStep m b d)) × (x ≡ bufferAfter (byteStep m b d) d)
     byte-lined silent ident j r x k u v =
         let a = lined-answer m b silent ident j (heard-fit m b f) (byte-judged silent ident j k) in
         given r x (subst (λ (y : Heard). Given m b r x d (outcomeOf m y)) (sym k) (
           u ∙ (ap (λ (y : Controller). linedOf y silent ident j) heard-is ∙ a .0),
-          v ∙ (ap (λ (y : Controller). over (lineReply y silent ident j) d) heard-is ∙ ap (λ (y : List ℕ). over y d)
+          v ∙ (ap (λ (y : Controller). over (linedReply y silent ident j) d) heard-is ∙ ap (λ (y : List ℕ). over y d)
               (a .1)),
         ))

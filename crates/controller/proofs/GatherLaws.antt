@@ -20,7 +20,7 @@ use Rattle.controller.specs.declared.state.Gathered.{Gathered}
 use Rattle.controller.specs.Held.{held, heldGathered}
 use Rattle.controller.specs.Reach.{Reachable, Made}
 use Rattle.controller.specs.Answers.{Quiet, Promised, stretch}
-use Rattle.controller.specs.Inner.Power.{lineWith}
+use Rattle.controller.specs.Inner.Power.{withLineOf}
 
 -- One character.
 pub character : (m : Machine) (b : ℕ) → eqb b 13 ≡ false
@@ -94,13 +94,13 @@ after-stretch c s h e bs r p =
 
 module _ (self : Controller) (bs : List ℕ) (g : line.Gathered) (c : Controller)
     (q : receiver.Holding (self .cold .line) (λ l. g ≡ receiver.heldGathered l bs))
-    (p : c ≡ lineWith self (g .next)) where
+    (p : c ≡ withLineOf self (g .next)) where
   abbrev answer : Gathered
   answer = record { controller = c; count = g .count }
 
   gathered-at : (m : Machine) → held m ≡ self → c ≡ held (withLine m (m .line ++ beforeEnd bs))
   gathered-at m e =
-      p ∙ (λ i. lineWith (sym e i) (q (m .line) (ap (λ (x : Controller). x .cold .line) e) i .next))
+      p ∙ (λ i. withLineOf (sym e i) (q (m .line) (ap (λ (x : Controller). x .cold .line) e) i .next))
 
   gather-is : Made self (λ m. answer ≡ heldGathered m bs)
   unfolding run

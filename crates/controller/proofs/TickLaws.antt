@@ -15,7 +15,17 @@ use Rattle.outputs.specs.Outputs.{generalOf}
 use Rattle.outputs.proofs.Words.{word-rest, word-still}
 use Rattle.outputs.proofs.Small.{small}
 use Rattle.machine.specs.State.{Machine, withMove, withFlags}
-use Rattle.machine.specs.Stops.{takes, stops, stopping, marks, blocked, sensorActive, watchFull, limitOrWatch}
+use Rattle.machine.specs.Stops.{
+  watchMost,
+  takes,
+  stops,
+  stopping,
+  marks,
+  blocked,
+  sensorActive,
+  watchFull,
+  limitOrWatch,
+}
 use Rattle.machine.specs.Outputs.{word}
 use Rattle.controller.specs.Held.{heldSettings, heldPlan, heldHot}
 use Rattle.controller.specs.Inner.Parts.{withWires}
@@ -43,7 +53,7 @@ takes-is m w = λ i.
 module _ (m : Machine) where
   limit-is : limitOrWatchOf (heldSettings (m .settings)) (heldPlan (m .move .plan)) (m .inputs) (m .watch)
       ≡ limitOrWatch m
-  limit-is = ap (λ (b : Bool). blocked m (m .move .plan) || leb 1000000 (m .watch) && b) (test-odd (m .settings .watch))
+  limit-is = ap (λ (b : Bool). blocked m (m .move .plan) || leb watchMost (m .watch) && b) (test-odd (m .settings .watch))
 
   pub stops-is : stopsOf (heldSettings (m .settings)) (heldHot m) ≡ heldHot (stops m)
   stops-is =

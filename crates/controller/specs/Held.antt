@@ -32,6 +32,7 @@ use Rattle.controller.specs.declared.state.Pause.{Pause}
 use Rattle.controller.specs.declared.state.Flags.{Flags}
 use Rattle.controller.specs.declared.state.Wires.{Wires}
 
+-- Settings and flags as they are; of a plan the five axes as lists.
 abbrev pub heldSettings : M.Settings → Settings
 heldSettings s = record {
   speed = s .speed;
@@ -66,6 +67,7 @@ heldCounters v p = record {
   positions = each (λ k. record { 0 = bias (p k) });
 }
 
+-- A waiting start as its master and 1, none as 0.
 abbrev pub heldWaiting : M.Waiting → ℕ
 heldWaiting none = 0
 heldWaiting (start k) = k + 1
@@ -87,6 +89,7 @@ heldWires switch polarity outputs p = record {
   };
 }
 
+-- What a tick may alter.
 abbrev pub heldHot : Machine → Hot
 heldHot m = record {
   plan = heldPlan (m .move .plan);
@@ -100,6 +103,7 @@ heldHot m = record {
   flags = heldFlags (m .flags);
 }
 
+-- What only bytes alter. A half-received line is held as the receiver holds it.
 abbrev pub heldCold : Machine → Cold
 heldCold m = record {
   settings = heldSettings (m .settings);
@@ -108,20 +112,24 @@ heldCold m = record {
   switch = m .switch;
 }
 
+-- The controller that holds a machine.
 abbrev pub held : Machine → Controller
 held m = record { hot = heldHot m; cold = heldCold m }
 
 -- ---- The answers
 
+-- Power-on: the controller and its number.
 abbrev pub heldPower : ℕ → PowerOn
 heldPower s = record { controller = held (powerOn s); number = powerNumber s }
 
+-- The travel and the position of axis k, as `travels` and `positions` hand them out.
 abbrev pub heldTravel : Machine → ℕ → Travel
 heldTravel m k = record { 0 = travelOf m k }
 
 abbrev pub heldPosition : Machine → ℕ → Position
 heldPosition m k = record { 0 = bias (positionOf m k) }
 
+-- A byte: the next controller, the length of the reply, the number.
 abbrev pub heldByte : steps.ByteAnswer → ByteAnswer
 heldByte a = record { controller = held (a .machine); length = length (a .reply); number = a .number }
 
@@ -130,6 +138,7 @@ abbrev pub heldGathered : Machine → List ℕ → Gathered
 heldGathered m bs =
     record { controller = held (from m (bytes (beforeEnd bs) [])); count = length (beforeEnd bs) }
 
+-- A tick: the next controller, the pulses as a list, the two words, the number.
 abbrev pub heldTick : steps.TickAnswer → TickAnswer
 heldTick a = record {
   controller = held (a .machine);

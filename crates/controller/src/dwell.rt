@@ -5,9 +5,7 @@ ghost use Rattle.controller.specs.Inner.Start.{StartFits};
 ghost use Rattle.controller.specs.Inner.Dwell.{failedOf, dueOf, isDueOf, waitsOf, WaitFits};
 use crate::start;
 use crate::state;
-use crate::state::Flags;
 use crate::state::Hot;
-use crate::state::Pause;
 use crate::state::Plan;
 use crate::state::Settings;
 
@@ -21,20 +19,11 @@ pub struct Waited {
 fn failed(was: Hot, number: u8) -> Hot
     ensures { λ r. ⌜ r ≡ failedOf was number ⌝ }
 {
-    let told = was.flags;
-    let flags = Flags {
-        wrong: state::either(told.wrong, number == 14),
-        stopped: told.stopped,
-        emergency: told.emergency,
-        sensed: told.sensed,
-    };
-    let pause = Pause {
-        left: 0,
-        waiting: 0,
-    };
+    let wrong = state::either(was.flags.wrong, number == 14);
     let mut next = was;
-    next.flags = flags;
-    next.pause = pause;
+    next.flags.wrong = wrong;
+    next.pause.left = 0;
+    next.pause.waiting = 0;
     next
 }
 

@@ -10,12 +10,13 @@ ghost use Rattle.controller.specs.Held.{heldPower};
 ghost use Rattle.controller.specs.Reach.{Reachable};
 ghost use Rattle.controller.specs.Answers as answered;
 ghost use Rattle.controller.specs.Answers.{ReplyIn, Promised, Demand3Answers};
-ghost use Rattle.controller.specs.Inner.Power.{lineWith};
+ghost use Rattle.controller.specs.Inner.Power.{withLineOf};
 pub use crate::state::ByteAnswer;
 pub use crate::state::Controller;
 pub use crate::state::Gathered;
 pub use crate::state::PowerOn;
 pub use crate::state::TickAnswer;
+use block::REPLY_ROOM;
 use receiver::Heard;
 use receiver::Receiver;
 
@@ -33,6 +34,9 @@ pub mod state;
 mod status;
 mod watch;
 mod words;
+
+// The greatest input word: 24 bits.
+const LAST_WORD: u32 = 16777215;
 
 // Power-on. The theorem about every list of calls, the marked table and computed lists stand here as promises, so that
 // the gate keeps them: they speak of the machine whose held values every entry answers. The same theorem over the
@@ -70,7 +74,7 @@ pub fn front(buf: &[u8], n: usize) -> &[u8]
 
 // The controller with the characters received so far.
 fn with_line(c: Controller, line: Receiver) -> Controller
-    ensures { λ r. ⌜ r ≡ lineWith c line ⌝ }
+    ensures { λ r. ⌜ r ≡ withLineOf c line ⌝ }
 {
     let hot = c.hot;
     let mut cold = c.cold;
@@ -84,7 +88,7 @@ impl Controller {
         requires { ⌜ Reachable self ⌝ }
         ensures { λ r. ⌜ Promised self (answered.byte b (now (buf .entry)) (now (buf .exit)) r) ⌝ }
     {
-        if buf.len() < 120 {
+        if buf.len() < REPLY_ROOM {
             return ByteAnswer {
                 controller: self,
                 length: 0,
@@ -132,7 +136,7 @@ impl Controller {
         requires { ⌜ Reachable self ⌝ }
         ensures { λ r. ⌜ Promised self (answered.tick word r) ⌝ }
     {
-        if 16777215 < word {
+        if LAST_WORD < word {
             return TickAnswer {
                 controller: self,
                 first: 0,

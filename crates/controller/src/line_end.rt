@@ -6,12 +6,12 @@ ghost use Rattle.block.specs.Block.{over};
 ghost use Rattle.line.specs.Fits.{CommandFits, JudgedFits};
 ghost use Rattle.controller.specs.Inner.Start.{StartFits};
 ghost use Rattle.controller.specs.Inner.LineEnd.{
-  refusedOf,
-  refusalTo,
-  obeyedOf,
-  replyTo,
+  refuseOf,
+  refuseReply,
+  obeyOf,
+  tellReply,
   linedOf,
-  lineReply,
+  linedReply,
 };
 use crate::numbers;
 use crate::orders;
@@ -25,8 +25,8 @@ use line::command::Command;
 // A line turned away.
 fn refuse(c: Controller, buf: &mut [u8], silent: bool, ident: Ident, number: u8) -> ByteAnswer
     requires { ⌜ 120 ≤ length (now buf) ⌝ }
-    ensures { λ r. ⌜ r ≡ refusedOf c silent ident number ⌝ }
-    ensures { λ r. ⌜ now (buf .exit) ≡ over (refusalTo c silent ident number) (now (buf .entry)) ⌝ }
+    ensures { λ r. ⌜ r ≡ refuseOf c silent ident number ⌝ }
+    ensures { λ r. ⌜ now (buf .exit) ≡ over (refuseReply c silent ident number) (now (buf .entry)) ⌝ }
 {
     let controller = numbers::turned(c, number);
     let mut length = 0;
@@ -50,8 +50,8 @@ fn tell(
     digits: u32,
 ) -> usize
     requires { ⌜ 120 ≤ length (now buf) ⌝ }
-    ensures { λ r. ⌜ r ≡ length (replyTo c silent ident command digits) ⌝ }
-    ensures { λ r. ⌜ now (buf .exit) ≡ over (replyTo c silent ident command digits) (now (buf .entry)) ⌝ }
+    ensures { λ r. ⌜ r ≡ length (tellReply c silent ident command digits) ⌝ }
+    ensures { λ r. ⌜ now (buf .exit) ≡ over (tellReply c silent ident command digits) (now (buf .entry)) ⌝ }
 {
     if silent {
         return 0;
@@ -70,8 +70,8 @@ fn obey(
     digits: u32,
 ) -> ByteAnswer
     requires { ⌜ (120 ≤ length (now buf)) × CommandFits command ⌝ }
-    ensures { λ r. ⌜ r ≡ obeyedOf c silent ident command digits ⌝ }
-    ensures { λ r. ⌜ now (buf .exit) ≡ over (replyTo c silent ident command digits) (now (buf .entry)) ⌝ }
+    ensures { λ r. ⌜ r ≡ obeyOf c silent ident command digits ⌝ }
+    ensures { λ r. ⌜ now (buf .exit) ≡ over (tellReply c silent ident command digits) (now (buf .entry)) ⌝ }
 {
     let length = tell(c, buf, silent, ident, command, digits);
     let done = orders::does(c, command);
@@ -93,7 +93,7 @@ pub(crate) fn lined(
 ) -> ByteAnswer
     requires { ⌜ (120 ≤ length (now buf)) × JudgedFits judged × StartFits (c .cold .next) (c .hot .counters) ⌝ }
     ensures { λ r. ⌜ r ≡ linedOf c silent ident judged ⌝ }
-    ensures { λ r. ⌜ now (buf .exit) ≡ over (lineReply c silent ident judged) (now (buf .entry)) ⌝ }
+    ensures { λ r. ⌜ now (buf .exit) ≡ over (linedReply c silent ident judged) (now (buf .entry)) ⌝ }
 {
     let mut answer = ByteAnswer {
         controller: c,

@@ -15,7 +15,6 @@ use crate::numbers;
 use crate::settings;
 use crate::start;
 use crate::state::Controller;
-use crate::state::Flags;
 use line::command::Command;
 use reply::Position;
 
@@ -63,19 +62,13 @@ fn both(a: bool, b: bool) -> bool
 fn obey_reset(c: Controller) -> Controller
     ensures { λ r. ⌜ r ≡ obeyResetOf c ⌝ }
 {
-    let told = c.hot.flags;
     let active = inputs::emergency(c.cold.settings.low, c.cold.settings.high, c.hot.inputs);
-    let flags = Flags {
-        wrong: told.wrong,
-        stopped: told.stopped,
-        emergency: both(told.emergency, active),
-        sensed: told.sensed,
-    };
+    let held = both(c.hot.flags.emergency, active);
     let mut counters = c.hot.counters;
     counters.positions = [Position(digits::TOP_BIT); 5];
     let mut hot = c.hot;
     hot.counters = counters;
-    hot.flags = flags;
+    hot.flags.emergency = held;
     let mut next = c;
     next.hot = hot;
     next

@@ -1,6 +1,6 @@
 // What power-on makes (paper 01, "Power-on").
 ghost use mathlib.Core.Path.{_≡_};
-ghost use Rattle.controller.specs.Inner.Power.{badOf, freshSettingsOf, freshRunOf, freshHotOf, freshOf};
+ghost use Rattle.controller.specs.Inner.Power.{isBadOf, freshSettingsOf, freshRunOf, freshHotOf, freshOf};
 use crate::state::Cold;
 use crate::state::Controller;
 use crate::state::Counters;
@@ -17,7 +17,7 @@ use reply::Travel;
 
 // There is no switch over 15, and none that is 12.
 pub(crate) fn is_bad(switch: u8) -> bool
-    ensures { λ r. ⌜ r ≡ badOf switch ⌝ }
+    ensures { λ r. ⌜ r ≡ isBadOf switch ⌝ }
 {
     if 15 < switch {
         return true;
@@ -62,7 +62,7 @@ fn fresh_hot(switch: u8, plan: Plan) -> Hot
     let counters = Counters {
         travels: [Travel(0); 5],
         remainders: [0; 5],
-        positions: [Position(524288); 5],
+        positions: [Position(digits::TOP_BIT); 5],
     };
     let run = fresh_run();
     let minus = plan.minus;

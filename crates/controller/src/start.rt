@@ -19,6 +19,9 @@ use line::distances;
 use reply::Position;
 use reply::Travel;
 
+// The greatest position, as it is held.
+const LAST_PLACE: u32 = 1048575;
+
 // Whether a position leaves its range in so many steps.
 fn leaves(position: Position, minus: bool, distance: u32) -> bool
     requires { ⌜ (position .0 ≤ 1048575) × (distance ≤ 524287) ⌝ }
@@ -27,7 +30,7 @@ fn leaves(position: Position, minus: bool, distance: u32) -> bool
     if minus {
         return position.0 < distance;
     }
-    1048575 < position.0 + distance
+    LAST_PLACE < position.0 + distance
 }
 
 fn leaves_at(next: Plan, counters: Counters, k: usize) -> bool

@@ -8,6 +8,7 @@ use lib.Dec.{T, lit<}
 use lib.Ieee.{Float, binary64, fits, round}
 use lib.Ieee.Fits.{round-fits}
 use lib.Ieee.Exact.{HasValue}
+use Rattle.line.specs.Ranges.{topSpeed, topSlope}
 use Rattle.figures.specs.Figures.{given, unitsOf, speedUnits, slopeUnits, speedHz, slopeHz, ReadBack}
 use Rattle.figures.proofs.Values.{quarter}
 use Rattle.figures.proofs.Read.{reads, only, refuses}
@@ -45,18 +46,18 @@ speed-rounded : (n : ℕ) → rounded 1 n ≡ speedHz n
 speed-rounded n = ap (λ (z : ℕ). round binary64 false z 4) (one-mul n)
 
 -- every n in range is read back
-pub speed-trip : (n : ℕ) → 1 ≤ n → n ≤ 1000000 → speedUnits (speedHz n) ≡ given n
-speed-trip = trip 1 1000000 speedHz speed-rounded (lit< tt) (lit< tt)
+pub speed-trip : (n : ℕ) → 1 ≤ n → n ≤ topSpeed → speedUnits (speedHz n) ≡ given n
+speed-trip = trip 1 topSpeed speedHz speed-rounded (lit< tt) (lit< tt)
 
-pub slope-trip : (n : ℕ) → 1 ≤ n → n ≤ 4095 → slopeUnits (slopeHz n) ≡ given n
-slope-trip = trip 5 4095 slopeHz (λ n. refl) (lit< tt) (lit< tt)
+pub slope-trip : (n : ℕ) → 1 ≤ n → n ≤ topSlope → slopeUnits (slopeHz n) ≡ given n
+slope-trip = trip 5 topSlope slopeHz (λ n. refl) (lit< tt) (lit< tt)
 
 -- the reading of an f64 is that of figures, and nothing else
-pub speed-back : (x : Float) → T (fits binary64 x) → ReadBack speedHz 1000000 x (speedUnits x)
-speed-back = back 1 1000000 speedHz speed-rounded (lit< tt) (lit< tt)
+pub speed-back : (x : Float) → T (fits binary64 x) → ReadBack speedHz topSpeed x (speedUnits x)
+speed-back = back 1 topSpeed speedHz speed-rounded (lit< tt) (lit< tt)
 
-pub slope-back : (x : Float) → T (fits binary64 x) → ReadBack slopeHz 4095 x (slopeUnits x)
-slope-back = back 5 4095 slopeHz (λ n. refl) (lit< tt) (lit< tt)
+pub slope-back : (x : Float) → T (fits binary64 x) → ReadBack slopeHz topSlope x (slopeUnits x)
+slope-back = back 5 topSlope slopeHz (λ n. refl) (lit< tt) (lit< tt)
 
 -- what is read as n is the f64 of n
 pub speed-is : (n : ℕ) (x : Float) → T (fits binary64 x) → speedUnits x ≡ given n → x ≡ speedHz n

@@ -12,7 +12,7 @@ use Rattle.line.specs.declared.command.Reading.the-variants as R
 use Rattle.line.specs.declared.command.Command.{Command}
 use Rattle.line.specs.declared.command.Command.the-variants as C
 use Rattle.line.specs.declared.Judged.the-variants.{Accepted}
-use Rattle.line.specs.Ranges.{readingFits}
+use Rattle.line.specs.Ranges.{topSpeed, readingFits}
 use Rattle.line.specs.Codes.{isInputs, isQuery}
 use Rattle.line.specs.Line.{judgeRow, judgeValue}
 use Rattle.line.specs.Fits.{CommandFits}
@@ -44,7 +44,7 @@ accept-setting : (k v : ℕ) → CommandFits (C.Set k v) → Taken (C.Set k v)
 unfolding judgeRow
 accept-setting k v h =
     by-setting (λ (c w : ℕ). Taken (C.Set c w)) k v
-    (λ low high. rw (code-back 8 v (omega arith), five-back 8 v (omega arith), is-within v 1 1000000 low high))
+    (λ low high. rw (code-back 8 v (omega arith), five-back 8 v (omega arith), is-within v 1 topSpeed low high))
     (λ low high. rw (code-back 9 v (omega arith), five-back 9 v (omega arith), is-within v 1 4095 low high))
     (λ high. rw (code-back 10 v (omega arith), five-back 10 v (omega arith), le-leb v 16383 high))
     (accept-watch v)

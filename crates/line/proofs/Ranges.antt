@@ -9,7 +9,7 @@ use Rattle.digits.specs.Digits.{sixDigits, topBit}
 use Rattle.laws.proofs.Pick.{by-eq}
 use Rattle.laws.proofs.Tests.{both}
 use Rattle.line.specs.declared.command.Command.the-variants as C
-use Rattle.line.specs.Ranges.{isWithin, isAxis, inputBits, fits}
+use Rattle.line.specs.Ranges.{isWithin, isAxis, topSpeed, topSlope, inputBits, fits}
 
 -- ---- tests taken apart
 
@@ -62,8 +62,8 @@ by-order P p9 p10 p11 k e =
 
 -- A fact about a setting in range, by its code.
 pub by-setting : (P : ℕ → ℕ → Type 0) (code v : ℕ)
-    → (1 ≤ v → v ≤ 1000000 → P 8 v)
-    → (1 ≤ v → v ≤ 4095 → P 9 v)
+    → (1 ≤ v → v ≤ topSpeed → P 8 v)
+    → (1 ≤ v → v ≤ topSlope → P 9 v)
     → (v ≤ 16383 → P 10 v)
     → (v ≤ 3 → P 11 v)
     → (v ≤ 4095 → P 12 v)
@@ -71,8 +71,8 @@ pub by-setting : (P : ℕ → ℕ → Type 0) (code v : ℕ)
     → (inputBits v ≡ true → P 14 v)
     → fits (C.Set code v) ≡ true → P code v
 by-setting P code v p8 p9 p10 p11 p12 p13 p14 =
-    by-eq If code 8 _ _ (λ q e. let t = within v 1 1000000 e in rw q (p8 (t .0) (t .1)))
-    λ _. by-eq If code 9 _ _ (λ q e. let t = within v 1 4095 e in rw q (p9 (t .0) (t .1)))
+    by-eq If code 8 _ _ (λ q e. let t = within v 1 topSpeed e in rw q (p8 (t .0) (t .1)))
+    λ _. by-eq If code 9 _ _ (λ q e. let t = within v 1 topSlope e in rw q (p9 (t .0) (t .1)))
     λ _. by-eq If code 10 _ _ (λ q e. rw q (p10 (leb-true v 16383 e)))
     λ _. by-eq If code 11 _ _ (λ q e. rw q (p11 (leb-true v 3 e)))
     λ _. by-eq If code 12 _ _ (λ q e. rw q (p12 (leb-true v 4095 e)))

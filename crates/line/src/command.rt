@@ -113,10 +113,10 @@ fn distance_fits(axis: u8, length: u32) -> bool
 }
 
 // The codes of the orders that name nothing else.
-pub(crate) fn is_order(code: u8) -> bool
+pub fn is_order(code: u32) -> bool
     ensures { λ r. ⌜ r ≡ isOrder code ⌝ }
 {
-    within(code as u32, 9, 11)
+    within(code, 9, 11)
 }
 
 // Whether each value of a command is in its range.
@@ -131,7 +131,7 @@ pub fn fits(command: Command) -> bool
         } => distance_fits(axis, length),
         Command::Set { code, value } => setting_fits(code, value),
         Command::Start { master, waits: _ } => master < AXES,
-        Command::Order(code) => is_order(code),
+        Command::Order(code) => is_order(code as u32),
         Command::Outputs(v) => v < digits::SIX_DIGITS,
         Command::Read(reading) => reading_fits(reading),
     }

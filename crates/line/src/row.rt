@@ -72,7 +72,7 @@ fn row_q(code: u8, five: u32) -> Row
             },
         };
     }
-    if command::is_order(code) {
+    if command::is_order(code as u32) {
         return Row::Listed {
             least: 1,
             command: Command::Order(code),

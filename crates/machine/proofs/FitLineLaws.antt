@@ -14,7 +14,7 @@ use Rattle.line.specs.declared.command.Command.the-variants as C
 use Rattle.line.specs.declared.Judged.{Judged}
 use Rattle.line.specs.declared.Judged.the-variants.{Accepted, Refused}
 use Rattle.line.specs.Line.{silentOf, identOf, judgeOf}
-use Rattle.line.specs.Ranges.{settingFits}
+use Rattle.line.specs.Ranges.{topSpeed, topSlope, settingFits}
 use Rattle.line.specs.Fits.{CommandFits, JudgedFits}
 use Rattle.line.proofs.Ranges.{within, axis, distance, by-code}
 use Rattle.line.proofs.Fits.{judge-fits}
@@ -44,9 +44,9 @@ fits-setting : (m : Machine) (b code v : ℕ) → Fits m → settingFits code v 
     → Fits (withWatch (does (heardBy m b) (C.Set code v)) 0)
 fits-setting m b code v f h =
     fits-set m _ f (record {
-      speed = by-eq (λ (x : ℕ). x ≤ 1000000) code 8 _ _ (λ q. within v 1 1000000 (rw q at h) .1)
+      speed = by-eq (λ (x : ℕ). x ≤ topSpeed) code 8 _ _ (λ q. within v 1 topSpeed (rw q at h) .1)
           (λ _. f .settings .speed);
-      slope = by-eq (λ (x : ℕ). x ≤ 4095) code 9 _ _ (λ q. within v 1 4095 (rw q at h) .1) (λ _. f .settings .slope);
+      slope = by-eq (λ (x : ℕ). x ≤ topSlope) code 9 _ _ (λ q. within v 1 topSlope (rw q at h) .1) (λ _. f .settings .slope);
       dwell = by-eq (λ (x : ℕ). x ≤ 16383) code 10 _ _ (λ q. leb-true v 16383 (rw q at h)) (λ _. f .settings .dwell);
     }) refl refl refl refl
 

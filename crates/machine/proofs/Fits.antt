@@ -4,6 +4,7 @@ use Prim.Native.Nat.{ℕ, _-_, _≤_, _<_}
 use mathlib.Core.Bool.{true, false}
 use mathlib.Core.Path.{_≡_, sym, subst}
 use lib.IntN.{ℤ}
+use Rattle.line.specs.Ranges.{topSpeed, topSlope}
 use Rattle.reply.specs.Reply.{bias}
 use Rattle.machine.specs.State.{Settings, Plan, Move, Machine, Waiting, none, start, Pause}
 use Rattle.machine.specs.Ramp.{full}
@@ -12,8 +13,8 @@ use Rattle.machine.proofs.Runs.{Good}
 use Rattle.machine.proofs.PositionLaws.{Room}
 
 pub record SettingsFit (s : Settings) : Type 0 where
-  pub speed : s .speed ≤ 1000000
-  pub slope : s .slope ≤ 4095
+  pub speed : s .speed ≤ topSpeed
+  pub slope : s .slope ≤ topSlope
   pub dwell : s .dwell ≤ 16383
 
 abbrev pub PlanFits : Plan → Type 0

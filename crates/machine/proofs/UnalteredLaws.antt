@@ -3,12 +3,13 @@
 use Prim.Native.Nat.{ℕ}
 use mathlib.Core.List.{List}
 use mathlib.Core.Path.{_≡_, refl}
-use lib.Dec.{leb, eqb}
+use lib.Dec.{leb}
 use Rattle.laws.proofs.Pick.{by-bool}
 use Rattle.line.specs.declared.command.Command.{Command}
 use Rattle.line.specs.declared.command.Command.the-variants as C
+use Rattle.line.proofs.Ranges.{by-code}
 use Rattle.machine.specs.State.{Machine, withLine}
-use Rattle.machine.specs.Commands.{number, ordered, drops, does, turned, stores}
+use Rattle.machine.specs.Commands.{number, ordered, drops, obeys, does, turned, stores}
 
 pub number-line : (m : Machine) (l : List ℕ) (c : Command) → number (withLine m l) c ≡ number m c
 number-line m l (C.Distance k s d) = refl
@@ -31,10 +32,9 @@ does-unaltered m (C.Start k waits) =
     by-bool (Unaltered m) (stores m waits) _ _ (λ _. record { switch = refl; inputs = refl; line = refl })
     (λ _. record { switch = refl; inputs = refl; line = refl })
 does-unaltered m (C.Order k) =
-    by-bool (Unaltered m) (eqb k 9) _ _ (λ _. stopped)
-    λ _. by-bool (Unaltered m) (eqb k 10) _ _ (λ _. record { switch = refl; inputs = refl; line = refl })
-    λ _. by-bool (Unaltered m) (eqb k 11) _ _ (λ _. record { switch = refl; inputs = refl; line = refl })
-    (λ _. record { switch = refl; inputs = refl; line = refl })
+    by-code (λ (j : ℕ). Unaltered m (obeys m j)) stopped (record { switch = refl; inputs = refl; line = refl })
+    (record { switch = refl; inputs = refl; line = refl })
+    (λ j p q r. rw (p, q, r) (record { switch = refl; inputs = refl; line = refl })) k
   where
     stopped : Unaltered m (drops (ordered m))
     stopped = record {

@@ -9,7 +9,7 @@ use Rattle.laws.proofs.Pick.{by-bool, by-eq}
 use Rattle.line.specs.declared.command.Command.{Command}
 use Rattle.line.specs.declared.command.Command.the-variants as C
 use Rattle.line.specs.declared.Judged.the-variants.{Accepted, Refused}
-use Rattle.line.specs.Ranges.{isWithin, isAxis, inputBits, settingFits}
+use Rattle.line.specs.Ranges.{isWithin, isAxis, isOrder, inputBits, settingFits}
 use Rattle.line.specs.Codes.{letterQ, code, five, second, rowQ}
 use Rattle.line.specs.Line.{judgeRow, judgeValue}
 use Rattle.line.proofs.Ranges.{within}
@@ -27,7 +27,7 @@ module _ (n : ℕ) where
   abbrev echoWith : ℕ → Bool
   echoWith k =
       cond (eqb k 8) (isAxis (second n % 8))
-      (cond (isWithin k 9 11) true
+      (cond (isOrder k) true
       (cond (isWithin k 13 14) (inputBits (five n))
       false))
 
@@ -49,7 +49,7 @@ module _ (n : ℕ) where
       rw (le-ltb k 5 h, ne-eqb k 6 six)
       (by-eq (λ f. isAccepted (judgeRow f 6 n) ≡ echoWith k) k 8 _ _
       (λ e. rw e (accepted-if (isAxis (second n % 8)) (C.Start (second n % 8) (leb 8 (second n)))))
-      λ a. by-bool (λ f. isAccepted (judgeRow f 6 n) ≡ echoWith k) (isWithin k 9 11) _ _
+      λ a. by-bool (λ f. isAccepted (judgeRow f 6 n) ≡ echoWith k) (isOrder k) _ _
       (λ e. rw (ne-eqb k 8 a, e))
       λ b. by-bool (λ f. isAccepted (judgeRow f 6 n) ≡ echoWith k) (isWithin k 13 14) _ _
       (λ e. let r : echoWith k ≡ inputBits (five n) = rw (ne-eqb k 8 a, b, e) in

@@ -9,6 +9,7 @@ use digits::Ident;
 use digits::TOP_BIT;
 use line::command::AXES;
 use line::command::input_bits;
+use line::command::is_order;
 use line::command::within;
 use reply::Position;
 use reply::Travel;
@@ -43,7 +44,7 @@ fn is_echo(number: u32) -> bool
     if code == 8 {
         return five / FOUR_DIGITS % 8 < AXES as u32;
     }
-    if within(code, 9, 11) {
+    if is_order(code) {
         return true;
     }
     if within(code, 13, 14) {

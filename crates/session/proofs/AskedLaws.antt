@@ -11,7 +11,7 @@ use Rattle.laws.proofs.Pick.{on-ge, on-eq}
 use Rattle.digits.specs.Digits.{numberOf}
 use Rattle.digits.specs.declared.Number.{Number}
 use Rattle.session.specs.declared.asked.Asked.{Asked}
-use Rattle.session.specs.Asked.{joinOf, readOn, countOf, between, lastSix, askedBy, askedOf}
+use Rattle.session.specs.Asked.{letterT, joinOf, readOn, countOf, between, lastSix, askedBy, askedOf}
 
 pub count-none : (cs : List ℕ) → length cs ≡ 0 → 0 ≡ countOf cs
 unfolding countOf
@@ -59,7 +59,7 @@ module _ (cs : List ℕ) (low : 10 ≤ length cs) (high : length cs ≤ 16) wher
       take-all (length cs - (length cs - 6)) (drop (length cs - 6) cs)
       (omega (arith, length-drop (length cs - 6) cs))
 
-  pub line-asked : (r : Asked) (n : ℕ) (w : Number) → getD cs 0 0 ≡ 84 → getD cs 1 0 ≡ 32
+  pub line-asked : (r : Asked) (n : ℕ) (w : Number) → getD cs 0 0 ≡ letterT → getD cs 1 0 ≡ 32
       → getD cs (length cs - 7) 0 ≡ 32 → n ≡ countOf (take (length cs - 7 - 2) (drop 2 cs))
       → w ≡ numberOf (take (length cs - (length cs - 6)) (drop (length cs - 6) cs))
       → r ≡ askedBy n w → r ≡ askedOf cs
@@ -67,7 +67,7 @@ module _ (cs : List ℕ) (low : 10 ≤ length cs) (high : length cs ≤ 16) wher
   line-asked r n w a b d p q e =
       on-ge (length cs) 10 r _ _ low
       (on-ge 16 (length cs) r _ _ high
-      (on-eq (getD cs 0 0) 84 r _ _ a
+      (on-eq (getD cs 0 0) letterT r _ _ a
       (on-eq (getD cs 1 0) 32 r _ _ b
       (on-eq (getD cs (length cs - 7) 0) 32 r _ _ d
       (e ∙ λ i. askedBy ((p ∙ ap countOf count-part) i) ((q ∙ ap numberOf word-part) i))))))

@@ -9,9 +9,9 @@ use lib.Dec.{eqb}
 use lib.Seq.{append-snoc}
 use Rattle.machine.specs.State.{Machine}
 use Rattle.machine.specs.Steps.{byteStep}
-use Rattle.machine.specs.Calls.{Call, byte, bytes, run, from}
-use Rattle.session.specs.Asked.{askedOf}
-use Rattle.session.specs.Session.{sending, asking, Answer, shown, buffer, asks}
+use Rattle.machine.specs.Calls.{Call, byte, bytes, run, from, buffer}
+use Rattle.session.specs.Asked.{letterT, askedOf}
+use Rattle.session.specs.Session.{sending, asking, Answer, shown, asks}
 use Rattle.session.specs.Lines.{prints, atLine, replies, goesIn, doneBy, lineDone, isLine, Lines}
 use Rattle.session.proofs.PrintedLaws.{prints-parts}
 
@@ -103,7 +103,7 @@ unfolding prints replies run
 whole-line m [] rest e =
     ap (λ (x : List ℕ). x ++ prints (atLine (byteStep m 13 buffer .machine)) rest)
     (sym (append-nil (shown (byteStep m 13 buffer .reply))))
-whole-line m (c ∷ cs) rest e = rw (char (eqb c 10) (isLine cs) e) (by (eqb c 84))
+whole-line m (c ∷ cs) rest e = rw (char (eqb c 10) (isLine cs) e) (by (eqb c letterT))
   where
     by : (t : Bool)
         → cond t (kept m c) (gone m c) .printed ++ prints (cond t (kept m c) (gone m c) .bench) (cs ++ (10 ∷ rest))
@@ -115,7 +115,7 @@ whole-line m (c ∷ cs) rest e = rw (char (eqb c 10) (isLine cs) e) (by (eqb c 8
 last-line : (m : Machine) (c : ℕ) (cs : List ℕ) → isLine (c ∷ cs) ≡ true
     → prints (atLine m) (c ∷ cs) ≡ lineDone m (c ∷ cs) .printed
 unfolding prints replies run
-last-line m c cs e = rw (char (eqb c 10) (isLine cs) e) (by (eqb c 84))
+last-line m c cs e = rw (char (eqb c 10) (isLine cs) e) (by (eqb c letterT))
   where
     by : (t : Bool)
         → cond t (kept m c) (gone m c) .printed ++ prints (cond t (kept m c) (gone m c) .bench) cs

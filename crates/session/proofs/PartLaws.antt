@@ -15,6 +15,7 @@ use Rattle.machine.specs.State.{Machine}
 use Rattle.machine.specs.Steps.{byteStep}
 use Rattle.controller.specs.declared.state.Controller.{Controller}
 use Rattle.controller.specs.Held.{held}
+use Rattle.machine.specs.Calls.{buffer}
 use Rattle.session.specs.declared.asked.Asked.the-variants.{Malformed, Ticks}
 use Rattle.session.specs.declared.ticks.Ran.{Ran}
 use Rattle.session.specs.declared.state.Place.the-variants.{Start, Sending}
@@ -22,7 +23,7 @@ use Rattle.session.specs.declared.state.Sent.{Sent}
 use Rattle.session.specs.declared.state.Taken.{Taken}
 use Rattle.session.specs.Ticks.{sumOf, ranOf}
 use Rattle.session.specs.Text.{sumsText, sumsLength, sumsOver}
-use Rattle.session.specs.Session.{starting, sending, buffer, sends, asks, Told, Passed, stoodAt, atStart}
+use Rattle.session.specs.Session.{starting, sending, sends, asks, Told, Passed, stoodAt, atStart}
 
 pub question-over : (d : List ℕ) → 120 ≤ length d → set (set d 0 63) 1 10 ≡ over (63 ∷ 10 ∷ []) d
 question-over d h = stores (63 ∷ 10 ∷ []) d (omega arith)

@@ -15,7 +15,7 @@ use Rattle.session.specs.declared.asked.Asked.{Asked}
 use Rattle.session.specs.declared.state.Place.the-variants.{Start, Sending, Asking}
 use Rattle.session.specs.declared.state.Session.{Session}
 use Rattle.session.specs.declared.state.Taken.{Taken}
-use Rattle.session.specs.Asked.{askedOf}
+use Rattle.session.specs.Asked.{letterT, askedOf}
 use Rattle.session.specs.Kept.{keeping, Keeping}
 use Rattle.session.specs.Session.{
   Place,
@@ -83,19 +83,19 @@ module _ (m : Machine) (p : Place) (s : Session) (e : heldBench (record { machin
       each sending z = let n : _≡_ {A = ℕ} 0 1 = cc in absurd (omega arith)
       each (asking l) z = refl
 
-  pub letter-passed : (b : ℕ) → s .place ≡ Start → b ≡ 84 → keeps m (keptIn p ++ (b ∷ [])) ≡ characterAt m p b
+  pub letter-passed : (b : ℕ) → s .place ≡ Start → b ≡ letterT → keeps m (keptIn p ++ (b ∷ [])) ≡ characterAt m p b
   letter-passed b q t = each p (at-place ∙ q)
     where
       each : (p : Place) → heldPlace p ≡ Start → keeps m (keptIn p ++ (b ∷ [])) ≡ characterAt m p b
-      each starting z = on-eq b 84 (keeps m (b ∷ [])) _ _ t refl
+      each starting z = on-eq b letterT (keeps m (b ∷ [])) _ _ t refl
       each sending z = let n : _≡_ {A = ℕ} 0 1 = cc in absurd (omega arith)
       each (asking l) z = let n : _≡_ {A = ℕ} 0 1 = cc in absurd (omega arith)
 
-  pub start-passed : (b : ℕ) → s .place ≡ Start → (b ≡ 84 → ⊥) → sends m b sending ≡ characterAt m p b
+  pub start-passed : (b : ℕ) → s .place ≡ Start → (b ≡ letterT → ⊥) → sends m b sending ≡ characterAt m p b
   start-passed b q t = each p (at-place ∙ q)
     where
       each : (p : Place) → heldPlace p ≡ Start → sends m b sending ≡ characterAt m p b
-      each starting z = on-ne b 84 (sends m b sending) _ _ t refl
+      each starting z = on-ne b letterT (sends m b sending) _ _ t refl
       each sending z = let n : _≡_ {A = ℕ} 0 1 = cc in absurd (omega arith)
       each (asking l) z = let n : _≡_ {A = ℕ} 0 1 = cc in absurd (omega arith)
 

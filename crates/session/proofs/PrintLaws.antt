@@ -30,7 +30,8 @@ use Rattle.machine.specs.Steps.{
 }
 use Rattle.controller.specs.declared.state.ByteAnswer.{ByteAnswer}
 use Rattle.controller.specs.Held.{heldByte}
-use Rattle.session.specs.Session.{shownByte, shown, buffer, Passed}
+use Rattle.machine.specs.Calls.{buffer}
+use Rattle.session.specs.Session.{shownByte, shown, Passed}
 use Rattle.session.proofs.DecimalLaws.{put-snoc}
 
 -- ---- byte by byte

@@ -8,7 +8,7 @@ use lib.ListN.{length}
 use Rattle.laws.proofs.Pick.{by-bool}
 use Rattle.machine.specs.State.{Machine}
 use Rattle.machine.specs.Steps.{powerOn}
-use Rattle.machine.specs.Calls.{Call, byte, run, state, ticks}
+use Rattle.machine.specs.Calls.{Call, byte, run, state, ticks, buffer}
 use Rattle.controller.specs.declared.state.Controller.{Controller}
 use Rattle.controller.specs.Held.{held}
 use Rattle.controller.specs.Reach.{Reachable}
@@ -18,7 +18,7 @@ use Rattle.session.specs.declared.kept.Kept.{Kept}
 use Rattle.session.specs.declared.state.Place.the-variants.{Start}
 use Rattle.session.specs.declared.state.Session.{Session}
 use Rattle.session.specs.declared.state.Taken.{Taken}
-use Rattle.session.specs.Asked.{askedOf}
+use Rattle.session.specs.Asked.{letterT, askedOf}
 use Rattle.session.specs.Kept.{keeping}
 use Rattle.session.specs.Session.{
   Place,
@@ -27,7 +27,6 @@ use Rattle.session.specs.Session.{
   asking,
   Bench,
   Answer,
-  buffer,
   fresh,
   sends,
   keeps,
@@ -109,7 +108,7 @@ module _ (w : ℕ) (h : List Call) where
 
   character-lives : (b : ℕ) (p : Place) → Lives (characterAt (state w h) p b .bench)
   character-lives b starting =
-      by-bool (λ (a : Answer). Lives (a .bench)) (eqb b 84) _ _ (λ e. keeps-lives (b ∷ []))
+      by-bool (λ (a : Answer). Lives (a .bench)) (eqb b letterT) _ _ (λ e. keeps-lives (b ∷ []))
       (λ e. sends-lives b sending)
   character-lives b sending = sends-lives b sending
   character-lives b (asking l) = keeps-lives (l ++ (b ∷ []))

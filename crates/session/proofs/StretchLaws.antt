@@ -12,9 +12,10 @@ use Rattle.laws.proofs.Pick.{on-true, on-false, by-bool}
 use Rattle.receiver.specs.Receiver.{before, beforeEnd}
 use Rattle.machine.specs.State.{Machine}
 use Rattle.machine.specs.Steps as steps
-use Rattle.machine.specs.Calls.{Call, byte, Origin, given, run, from, bytes}
+use Rattle.machine.specs.Calls.{Call, byte, Origin, given, run, from, bytes, buffer}
 use Rattle.laws.proofs.Tests.{true-false, neither}
 use Rattle.controller.proofs.GatherLaws.{character, run-on}
+use Rattle.session.specs.Asked.{letterT}
 use Rattle.session.specs.Session.{
   Place,
   starting,
@@ -23,7 +24,6 @@ use Rattle.session.specs.Session.{
   Bench,
   Answer,
   shown,
-  buffer,
   sends,
   keeps,
   ended,
@@ -57,7 +57,7 @@ module _ (b : ℕ) (e : isMark b ≡ false) where
 
   tells-nothing : (m : Machine) (p : Place) → Untold (characterAt m p b)
   tells-nothing m starting =
-      by-bool Untold (eqb b 84) (keeps m (b ∷ [])) (sends m b sending) (λ q. (refl, refl))
+      by-bool Untold (eqb b letterT) (keeps m (b ∷ [])) (sends m b sending) (λ q. (refl, refl))
       (λ q. sends-nothing m sending)
   tells-nothing m sending = sends-nothing m sending
   tells-nothing m (asking l) = (refl, refl)
@@ -127,7 +127,7 @@ module _ (m : Machine) where
       ∙ sent-on (given m) bs (byte b buffer ∷ [])) k
     where
       goes : (p : Place) → keepsOf (heldPlace p) b ≡ false → characterAt m p b ≡ sends m b sending
-      goes starting z = sym (on-false (eqb b 84) (sends m b sending) (keeps m (b ∷ [])) (sends m b sending) z refl)
+      goes starting z = sym (on-false (eqb b letterT) (sends m b sending) (keeps m (b ∷ [])) (sends m b sending) z refl)
       goes sending z = refl
       goes (asking l) z = true-false true refl z
 
@@ -145,7 +145,7 @@ module _ (m : Machine) where
       ∙ ap (λ (l : List ℕ). record { machine = m; place = asking l }) (append-snoc (keptIn p) b (stretch bs)))) k
     where
       stays : (p : Place) → keepsOf (heldPlace p) b ≡ true → characterAt m p b ≡ keeps m (keptIn p ++ (b ∷ []))
-      stays starting z = sym (on-true (eqb b 84) (keeps m (b ∷ [])) (keeps m (b ∷ [])) (sends m b sending) z refl)
+      stays starting z = sym (on-true (eqb b letterT) (keeps m (b ∷ [])) (keeps m (b ∷ [])) (sends m b sending) z refl)
       stays sending z = true-false false z refl
       stays (asking l) z = refl
 

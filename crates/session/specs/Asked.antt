@@ -11,6 +11,10 @@ use Rattle.digits.specs.declared.Number.the-variants.{NotDigits, Value}
 use Rattle.session.specs.declared.asked.Asked.{Asked}
 use Rattle.session.specs.declared.asked.Asked.the-variants.{Malformed, Ticks}
 
+-- T, with which a line begins that runs ticks.
+abbrev pub letterT : ℕ
+letterT = 84
+
 -- The number n with one decimal digit more; 0 where the character is no digit, or the number is over 1,000,000.
 abbrev pub joinOf : ℕ → ℕ → ℕ
 joinOf n c =
@@ -43,12 +47,12 @@ ticksBy n (Value w small) = Ticks n w
 abbrev pub askedBy : ℕ → Number → Asked
 askedBy n word = cond (eqb n 0) Malformed (ticksBy n word)
 
--- What a line asks, by its characters, 10 to 16 of them: T (84), a space (32), n, a space, the input word.
+-- What a line asks, by its characters, 10 to 16 of them: T, a space (32), n, a space, the input word.
 unfoldable pub askedOf : List ℕ → Asked
 askedOf cs =
     cond (ltb (length cs) 10) Malformed
     (cond (ltb 16 (length cs)) Malformed
-    (cond (eqb (getD cs 0 0) 84)
+    (cond (eqb (getD cs 0 0) letterT)
     (cond (eqb (getD cs 1 0) 32)
     (cond (eqb (getD cs (length cs - 7) 0) 32)
     (askedBy (countOf (between cs)) (numberOf (lastSix cs)))

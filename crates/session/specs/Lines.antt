@@ -8,9 +8,9 @@ use lib.Dec.{eqb}
 use Rattle.digits.specs.Digits.{endByte}
 use Rattle.machine.specs.State.{Machine}
 use Rattle.machine.specs.Steps.{byteStep}
-use Rattle.machine.specs.Calls.{bytes, from}
-use Rattle.session.specs.Asked.{askedOf}
-use Rattle.session.specs.Session.{starting, Bench, Answer, shown, buffer, asks, taken, finished}
+use Rattle.machine.specs.Calls.{buffer, bytes, from}
+use Rattle.session.specs.Asked.{letterT, askedOf}
+use Rattle.session.specs.Session.{starting, Bench, Answer, shown, asks, taken, finished}
 
 -- What is printed for an input, taken byte by byte to its end.
 unfoldable pub prints : Bench → List ℕ → List ℕ
@@ -47,7 +47,7 @@ goesIn m bs = record { bench = atLine (from m (bytes bs [])); printed = replies 
 
 abbrev pub beginsWithT : List ℕ → Bool
 beginsWithT [] = false
-beginsWithT (c ∷ cs) = eqb c 84
+beginsWithT (c ∷ cs) = eqb c letterT
 
 abbrev pub doneBy : Answer → Done
 doneBy a = record { bench = a .bench; printed = a .printed }

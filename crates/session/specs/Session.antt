@@ -4,14 +4,14 @@ use mathlib.Core.Bool.{cond}
 use mathlib.Core.List.{List, [], _∷_, _++_}
 use mathlib.Core.Path.{_≡_}
 use lib.Dec.{ltb, eqb}
-use lib.ListN.{length, replicate}
+use lib.ListN.{length}
 use Rattle.digits.specs.Digits.{endByte}
 use Rattle.laws.specs.Axes.{each}
 use Rattle.block.specs.Block.{over}
 use Rattle.machine.specs.State.{Machine}
 use Rattle.machine.specs.Steps as steps
 use Rattle.machine.specs.Steps.{powerOn, byteStep}
-use Rattle.machine.specs.Calls.{Call, state}
+use Rattle.machine.specs.Calls.{Call, state, buffer}
 use Rattle.controller.specs.declared.state.Controller.{Controller}
 use Rattle.controller.specs.Held.{held}
 use Rattle.session.specs.declared.asked.Asked.{Asked}
@@ -21,7 +21,7 @@ use Rattle.session.specs.declared.state.Place.the-variants.{Start, Sendi
 use Rattle.session.specs.declared.state.Session.{Session}
 use Rattle.session.specs.declared.state.Taken.{Taken}
 use Rattle.session.specs.declared.state.Sent.{Sent}
-use Rattle.session.specs.Asked.{askedOf}
+use Rattle.session.specs.Asked.{letterT, askedOf}
 use Rattle.session.specs.Ticks.{afterTicks, sumOf, numberIn}
 use Rattle.session.specs.Text.{sumsText}
 use Rattle.session.specs.Kept.{keeping}
@@ -56,11 +56,7 @@ abbrev pub shown : List ℕ → List ℕ
 shown [] = []
 shown (c ∷ cs) = shownByte c ∷ shown cs
 
--- A reply buffer of 120 bytes; what it holds plays no part.
-abbrev pub buffer : List ℕ
-buffer = replicate 120 0
-
--- A byte goes in and its reply is printed.
+-- A byte goes in with a reply buffer of 120 bytes, and its reply is printed; what the buffer holds plays no part.
 abbrev pub sent : steps.ByteAnswer → Place → Answer
 sent a p = record {
   bench = record { machine = a .machine; place = p };
@@ -95,7 +91,7 @@ ended x = endedAt (x .machine) (x .place)
 
 -- A byte that is no line feed.
 abbrev pub characterAt : Machine → Place → ℕ → Answer
-characterAt m starting b = cond (eqb b 84) (keeps m (b ∷ [])) (sends m b sending)
+characterAt m starting b = cond (eqb b letterT) (keeps m (b ∷ [])) (sends m b sending)
 characterAt m sending b = sends m b sending
 characterAt m (asking l) b = keeps m (l ++ (b ∷ []))
 

@@ -10,6 +10,7 @@ use Rattle.receiver.specs.Receiver.{before}
 use Rattle.session.specs.declared.state.Gathered.{Gathered}
 use Rattle.session.specs.declared.state.Place.{Place}
 use Rattle.session.specs.declared.state.Place.the-variants.{Start, Sending, Asking}
+use Rattle.session.specs.Asked.{letterT}
 use Rattle.session.specs.Session.{Bench, taken, heldBench}
 use Rattle.session.specs.Lines.{after}
 
@@ -32,6 +33,6 @@ Silent x (b ∷ bs) = (taken x b .printed ≡ []) × ((taken x b .number ≡ 0) 
 
 -- ---- On what is held: whether a line whose next character is b is kept.
 abbrev pub keepsOf : Place → ℕ → Bool
-keepsOf Start b = eqb b 84
+keepsOf Start b = eqb b letterT
 keepsOf Sending b = false
 keepsOf Asking b = true

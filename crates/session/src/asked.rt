@@ -7,7 +7,7 @@ ghost use Rattle.session.specs.Asked.{joinOf, countOf, askedBy, askedOf}
 use digits::Number;
 
 // The letter T, and a space.
-const LETTER: u8 = 84;
+pub(crate) const LETTER: u8 = 84;
 
 const SPACE: u8 = 32;
 

@@ -11,13 +11,14 @@ ghost use Rattle.session.specs.Lines.{Lines};
 ghost use Rattle.session.specs.Session.{fresh, ended, character, taken, finished, keptOf, untakenOf, heldBench};
 ghost use Rattle.session.specs.Session.{Told, Answers, Running, Runs};
 ghost use Rattle.session.specs.Stretch.{stretch, heldStretch, Silent};
+use crate::asked::LETTER;
 use crate::kept::Kept;
 pub use crate::state::Gathered;
 pub use crate::state::Place;
 pub use crate::state::Session;
 pub use crate::state::Taken;
 use crate::stretch::FEED;
-use crate::stretch::LETTER;
+use block::REPLY_ROOM;
 use digits::END;
 
 mod answer;
@@ -27,9 +28,6 @@ pub mod state;
 mod stretch;
 mod text;
 mod ticks;
-
-// The reply buffer that a controller asks for.
-const ROOM: usize = 120;
 
 impl Session {
     // A controller of switch 0, before any line. The law of whole lines stands here as a promise, so that the gate
@@ -167,7 +165,7 @@ impl Session {
         ensures { λ r. ⌜ Runs self (λ x. Answers r (now (buf .exit)) (now (buf .entry)) x (taken x b)) ⌝ }
         ensures { λ r. ⌜ Running (r .session) ⌝ }
     {
-        if buf.len() < ROOM {
+        if buf.len() < REPLY_ROOM {
             return self.untaken();
         }
         if b == FEED {
@@ -182,7 +180,7 @@ impl Session {
         ensures { λ r. ⌜ Runs self (λ x. Answers r (now (buf .exit)) (now (buf .entry)) x (finished x)) ⌝ }
         ensures { λ r. ⌜ Running (r .session) ⌝ }
     {
-        if buf.len() < ROOM {
+        if buf.len() < REPLY_ROOM {
             return self.untaken();
         }
         let place = self.place;

@@ -2,14 +2,12 @@
 ghost use mathlib.Core.Path.{_≡_};
 ghost use lib.ListN.{length};
 ghost use Rattle.session.specs.Stretch.{isMark, stretch, keepsOf};
+use crate::asked::LETTER;
 use crate::state::Place;
 use digits::END;
 
 // The line feed, which ends a line of the input; byte 0D goes in for it.
 pub(crate) const FEED: u8 = 10;
-
-// The letter T.
-pub(crate) const LETTER: u8 = 84;
 
 // Whether a byte is a line feed or 0D.
 fn is_mark(b: u8) -> bool

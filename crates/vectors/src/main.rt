@@ -27,7 +27,7 @@ fn play_session(file: i32) {
     let start = Session::new();
     let passed = console::pass_all(start, &bytes[..n]);
     let session = passed.session;
-    let mut buf = [0u8; 120];
+    let mut buf = [0u8; block::REPLY_ROOM];
     let last = session.finish(&mut buf);
     io::write_all(STDOUT_FILENO, block::front(&buf, last.length));
 }

@@ -8,7 +8,7 @@ use figures::Figures;
 fn pair_after(bytes: &[u8]) -> Figures {
     let on = controller::power_on(0);
     let mut controller = on.controller;
-    let mut buf = [0u8; 120];
+    let mut buf = [0u8; block::REPLY_ROOM];
     let mut i = 0;
     while i < bytes.len() {
         let answer = controller.byte(&mut buf, bytes[i]);

@@ -16,36 +16,36 @@ use Rattle.controller.specs.Inner.Numbers.{numberOf, turnedOf}
 use Rattle.controller.specs.Inner.Status.{readingsOf}
 
 -- The reply to a line turned away.
-abbrev pub refusalTo : Controller → Bool → Ident → ℕ → List ℕ
-refusalTo c silent ident n = cond silent [] (refusalOf (c .cold .switch) n ident)
+abbrev pub refuseReply : Controller → Bool → Ident → ℕ → List ℕ
+refuseReply c silent ident n = cond silent [] (refusalOf (c .cold .switch) n ident)
 
 -- A line turned away.
-abbrev pub refusedOf : Controller → Bool → Ident → ℕ → ByteAnswer
-refusedOf c silent ident n =
-    record { controller = turnedOf c n; length = length (refusalTo c silent ident n); number = n }
+abbrev pub refuseOf : Controller → Bool → Ident → ℕ → ByteAnswer
+refuseOf c silent ident n =
+    record { controller = turnedOf c n; length = length (refuseReply c silent ident n); number = n }
 
 -- The reply to a line accepted, made from the readings before it.
-abbrev pub replyTo : Controller → Bool → Ident → Command → ℕ → List ℕ
-replyTo c silent ident command digits = cond silent [] (replyOf (toldBy (readingsOf c)) command digits ident)
+abbrev pub tellReply : Controller → Bool → Ident → Command → ℕ → List ℕ
+tellReply c silent ident command digits = cond silent [] (replyOf (toldBy (readingsOf c)) command digits ident)
 
 -- A line accepted.
-abbrev pub obeyedOf : Controller → Bool → Ident → Command → ℕ → ByteAnswer
-obeyedOf c silent ident command digits = record {
+abbrev pub obeyOf : Controller → Bool → Ident → Command → ℕ → ByteAnswer
+obeyOf c silent ident command digits = record {
   controller = zeroWatchOf (doesOf c command);
-  length = length (replyTo c silent ident command digits);
+  length = length (tellReply c silent ident command digits);
   number = 0;
 }
 
 -- A line that has ended.
 abbrev pub linedOf : Controller → Bool → Ident → Judged → ByteAnswer
-linedOf c silent ident (Refused n) = refusedOf c silent ident n
+linedOf c silent ident (Refused n) = refuseOf c silent ident n
 linedOf c silent ident (Accepted command digits) =
-    cond (eqb (numberOf c command) 0) (obeyedOf c silent ident command digits)
-    (refusedOf c silent ident (numberOf c command))
+    cond (eqb (numberOf c command) 0) (obeyOf c silent ident command digits)
+    (refuseOf c silent ident (numberOf c command))
 
 -- Its reply.
-abbrev pub lineReply : Controller → Bool → Ident → Judged → List ℕ
-lineReply c silent ident (Refused n) = refusalTo c silent ident n
-lineReply c silent ident (Accepted command digits) =
-    cond (eqb (numberOf c command) 0) (replyTo c silent ident command digits)
-    (refusalTo c silent ident (numberOf c command))
+abbrev pub linedReply : Controller → Bool → Ident → Judged → List ℕ
+linedReply c silent ident (Refused n) = refuseReply c silent ident n
+linedReply c silent ident (Accepted command digits) =
+    cond (eqb (numberOf c command) 0) (tellReply c silent ident command digits)
+    (refuseReply c silent ident (numberOf c command))

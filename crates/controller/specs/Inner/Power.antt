@@ -4,6 +4,7 @@ use mathlib.Core.Bool.{Bool, false, _||_}
 use mathlib.Core.List.{[]}
 use lib.Dec.{ltb, eqb}
 use Rattle.laws.specs.Axes.{each}
+use Rattle.digits.specs.Digits.{topBit}
 use Rattle.outputs.specs.declared.Cells.{Cells}
 use Rattle.outputs.specs.Outputs.{generalOf}
 use Rattle.receiver.specs.declared.Receiver.{Receiver}
@@ -16,8 +17,8 @@ use Rattle.controller.specs.declared.state.Settings.{Settings}
 use Rattle.controller.specs.Inner.Parts.{runOf, pauseOf, hotOf, controllerOf, cellsOf}
 
 -- There is no such switch.
-abbrev pub badOf : ℕ → Bool
-badOf switch = ltb 15 switch || eqb switch 12
+abbrev pub isBadOf : ℕ → Bool
+isBadOf switch = ltb 15 switch || eqb switch 12
 
 -- All distances 0, all directions plus.
 abbrev pub freshPlan : Plan
@@ -37,7 +38,7 @@ freshHotGiven plan run general cells =
     hotOf plan (record {
       travels = each (λ k. record { 0 = 0 });
       remainders = each (λ k. 0);
-      positions = each (λ k. record { 0 = 524288 });
+      positions = each (λ k. record { 0 = topBit });
     })
     run (record { general = general; cells = cells }) (pauseOf 0 0) 0 0 0
     (record { wrong = false; stopped = false; emergency = false; sensed = false })
@@ -51,5 +52,5 @@ abbrev pub freshOf : ℕ → Controller
 freshOf switch = controllerOf (freshHotOf switch freshPlan) freshSettingsOf freshPlan (holding []) switch
 
 -- The controller with the characters received so far.
-abbrev pub lineWith : Controller → Receiver → Controller
-lineWith c line = controllerOf (c .hot) (c .cold .settings) (c .cold .next) line (c .cold .switch)
+abbrev pub withLineOf : Controller → Receiver → Controller
+withLineOf c line = controllerOf (c .hot) (c .cold .settings) (c .cold .next) line (c .cold .switch)

@@ -3,6 +3,7 @@ use Prim.Native.Nat.{ℕ, _+_, _-_, _*_, _≤_, _<_}
 use mathlib.Core.Bool.{Bool, true, false, cond, not, _&&_}
 use mathlib.Core.Path.{_≡_}
 use lib.Dec.{ltb, leb, eqb}
+use Rattle.line.specs.Ranges.{topSpeed, topSlope}
 use Rattle.machine.specs.Ramp.{full, braked, towards}
 use Rattle.controller.specs.declared.state.Settings.{Settings}
 use Rattle.controller.specs.declared.state.Run.{Run}
@@ -20,8 +21,8 @@ rampOf s r =
 -- What keeps its products in 64 bits.
 pub record RampFits (s : Settings) (r : Run) : Type 0 where
   pub now : r .speed ≤ full
-  pub speed : s .speed ≤ 1000000
-  pub slope : s .slope ≤ 4095
+  pub speed : s .speed ≤ topSpeed
+  pub slope : s .slope ≤ topSlope
   pub length : r .length ≤ 524287
   pub gone : r .gone < r .length
   pub phase : r .phase < full

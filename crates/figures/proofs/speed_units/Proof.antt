@@ -3,6 +3,7 @@ use borrow.Author.Needs.{needs}
 use mathlib.Core.Path.{sym, subst}
 use Prim.Native.Nat.{ℕ}
 use lib.Dec.{T}
+use Rattle.line.specs.Ranges.{topSpeed}
 use Rattle.figures.specs.Figures.{Answer, ReadBack, speedHz}
 use Rattle.figures.proofs.Values.{speed-unit-is}
 use Rattle.figures.proofs.Trip.{speed-back}
@@ -17,7 +18,7 @@ returns c =
     let x = c .before .args .x in
     let read = c .read-units .ensures 1 speed-unit-is in
     let fits = subst T (sym (c .before .good .0 .1)) tt in
-    (read, subst (λ (r : Answer ℕ). ReadBack speedHz 1000000 x r) (sym read) (speed-back x fits))
+    (read, subst (λ (r : Answer ℕ). ReadBack speedHz topSpeed x r) (sym read) (speed-back x fits))
 
 pub speed-units-spec : {M : Type 1} → statement M
 speed-units-spec = tie.close (tie.spec read-units-requires returns)

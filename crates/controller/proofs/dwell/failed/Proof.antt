@@ -9,8 +9,8 @@ either-requires c κs = search needs
 
 returns : tie.Need-returns
 returns c =
-    let q = c .before .before .args in
-    λ i. failedGiven (q .was) (c .either .ensures i)
+    let e = c .before .before .before in
+    λ i. failedGiven (e .before .args .was) (e .either .ensures i)
 
 pub failed-spec : {M : Type 1} → statement M
 failed-spec = tie.close (tie.spec either-requires returns)

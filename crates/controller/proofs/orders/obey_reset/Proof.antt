@@ -15,9 +15,9 @@ both-requires c κs = search needs
 
 returns : tie.Need-returns
 returns c =
-    let b = c .before .before .before in
+    let b = c .before .before .before .before in
     let e = b .before in
-    let q = e .before .before .args .c in
+    let q = e .before .args .c in
     ap (λ (x : Bool). withHot q (obeyResetGiven (q .hot) x))
     (b .both .ensures ∙ ap (λ (x : Bool). q .hot .flags .emergency && x) (e .emergency .ensures))
 

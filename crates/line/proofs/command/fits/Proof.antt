@@ -23,6 +23,9 @@ enum-known-command-3 c = search needs
 enum-known-command-4 : tie.Need-enum-known-command-4
 enum-known-command-4 c = search needs
 
+cast-is-order : tie.Need-cast-is-order
+cast-is-order c = search needs
+
 is-order-requires : tie.Need-is-order-requires
 is-order-requires c κs = search needs
 
@@ -63,6 +66,7 @@ fits-spec =
     setting-fits-requires
     enum-known-command-3
     enum-known-command-4
+    cast-is-order
     is-order-requires
     enum-known-command-5
     enum-known-command-6

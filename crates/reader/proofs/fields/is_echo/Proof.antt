@@ -10,14 +10,14 @@ cast-result c = search needs
 returns : tie.Need-returns
 returns c = search (picks, tolds) depth 9
 
-within-requires : tie.Need-within-requires
-within-requires c κs = search needs
+is-order-requires : tie.Need-is-order-requires
+is-order-requires c κs = search needs
 
 returns-2 : tie.Need-returns-2
 returns-2 c = search (picks, tolds) depth 9
 
-within-requires-2 : tie.Need-within-requires-2
-within-requires-2 c κs = search needs
+within-requires : tie.Need-within-requires
+within-requires c κs = search needs
 
 input-bits-requires : tie.Need-input-bits-requires
 input-bits-requires c κs = search needs
@@ -34,9 +34,9 @@ is-echo-spec =
     (tie.spec
     cast-result
     returns
-    within-requires
+    is-order-requires
     returns-2
-    within-requires-2
+    within-requires
     input-bits-requires
     returns-3
     returns-4)
