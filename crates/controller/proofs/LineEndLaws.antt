@@ -48,7 +48,8 @@ module _ (c : Controller) (ident : Ident) (d : List ℕ) where
 
   module _ (command : Command) (digits : ℕ) where
     pub tell-silent : (silent : Bool) → silent ≡ true
-        → (0 ≡ length (tellReply c silent ident command digits)) × (d ≡ over (tellReply c silent ident command digits) d)
+        → (0 ≡ length (tellReply c silent ident command digits))
+        × (d ≡ over (tellReply c silent ident command digits) d)
     tell-silent silent s =
         subst (λ (b : Bool). (0 ≡ length (tellReply c b ident command digits))
         × (d ≡ over (tellReply c b ident command digits) d)) (sym s) (refl, sym (over-nil d))
@@ -56,7 +57,8 @@ module _ (c : Controller) (ident : Ident) (d : List ℕ) where
     pub tell-told : (silent : Bool) (r : Readings) (l : ℕ) (x : List ℕ) → 120 ≤ length d → silent ≡ false
         → r ≡ readingsOf c → l ≡ laidLength 0 (replyOf (toldBy r) command digits ident) d
         → x ≡ laid 0 (replyOf (toldBy r) command digits ident) d
-        → (l ≡ length (tellReply c silent ident command digits)) × (x ≡ over (tellReply c silent ident command digits) d)
+        → (l ≡ length (tellReply c silent ident command digits))
+        × (x ≡ over (tellReply c silent ident command digits) d)
     tell-told silent r l x h s k p q =
         subst (λ (b : Bool). (l ≡ length (tellReply c b ident command digits))
         × (x ≡ over (tellReply c b ident command digits) d)) (sym s) (

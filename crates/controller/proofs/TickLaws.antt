@@ -53,7 +53,8 @@ takes-is m w = λ i.
 module _ (m : Machine) where
   limit-is : limitOrWatchOf (heldSettings (m .settings)) (heldPlan (m .move .plan)) (m .inputs) (m .watch)
       ≡ limitOrWatch m
-  limit-is = ap (λ (b : Bool). blocked m (m .move .plan) || leb watchMost (m .watch) && b) (test-odd (m .settings .watch))
+  limit-is =
+      ap (λ (b : Bool). blocked m (m .move .plan) || leb watchMost (m .watch) && b) (test-odd (m .settings .watch))
 
   pub stops-is : stopsOf (heldSettings (m .settings)) (heldHot m) ≡ heldHot (stops m)
   stops-is =

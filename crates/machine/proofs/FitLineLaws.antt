@@ -46,7 +46,8 @@ fits-setting m b code v f h =
     fits-set m _ f (record {
       speed = by-eq (λ (x : ℕ). x ≤ topSpeed) code 8 _ _ (λ q. within v 1 topSpeed (rw q at h) .1)
           (λ _. f .settings .speed);
-      slope = by-eq (λ (x : ℕ). x ≤ topSlope) code 9 _ _ (λ q. within v 1 topSlope (rw q at h) .1) (λ _. f .settings .slope);
+      slope = by-eq (λ (x : ℕ). x ≤ topSlope) code 9 _ _ (λ q. within v 1 topSlope (rw q at h) .1)
+          (λ _. f .settings .slope);
       dwell = by-eq (λ (x : ℕ). x ≤ 16383) code 10 _ _ (λ q. leb-true v 16383 (rw q at h)) (λ _. f .settings .dwell);
     }) refl refl refl refl
 
