@@ -19,11 +19,15 @@ CROSSING = [
     (("controller", "TickAnswer"), "temixohuel_tick_answer", "TickAnswer"),
     (("firmware", "Travels"), "temixohuel_travel_answer", "TravelAnswer"),
     (("firmware", "Positions"), "temixohuel_position_answer", "PositionAnswer"),
+    (("journal", "Entry"), "temixohuel_entry", "Entry"),
+    (("journal", "Appended"), "temixohuel_append_answer", "AppendAnswer"),
+    (("journal", "EntryAt"), "temixohuel_read_answer", "ReadAnswer"),
 ]
 OPAQUE = ("controller", "Controller")
 WORDS = re.compile(r'"[^"]*"|[()]|[^\s()]+')
 C_NUMBERS = {f"{sign}{n}": f"{'u' * (sign == 'u')}int{n}_t" for sign in "iu" for n in (8, 16, 32, 64)}
-C_NUMBERS["usize"] = "size_t"
+C_NUMBERS |= {"usize": "size_t", "bool": "_Bool", "*mut u8": "uint8_t *", "*const u8": "const uint8_t *"}
+SLICES = {"&mut [u8]": ["*mut u8", "usize"], "&[u8]": ["*const u8", "usize"]}
 HEADER, BINDING, ROOM = Path("include/temixohuel.h"), Path("include/temixohuel.rs"), Path("target/layout")
 
 
@@ -103,7 +107,7 @@ def functions():
     """Name, types of the parameters and type of the result of each function of the library."""
     for name, words, result in re.findall(r'pub extern "C" fn (\w+)\(([^)]*)\) -> (\w+)', source("firmware")):
         kinds = [part.split(": ")[1] for part in words.split(", ")]
-        yield name, [kind for word in kinds for kind in (["*u8", "usize"] if word == "&mut [u8]" else [word])], result
+        yield name, [kind for word in kinds for kind in SLICES.get(word, [word])], result
 
 
 def renamed(kind, numbers, column):
@@ -118,11 +122,11 @@ def c_type(kind):
     array = re.fullmatch(r"\[(\w+); (\d+)\]", kind)
     if array:
         return f"{renamed(array.group(1), C_NUMBERS, 1)}[{array.group(2)}]"
-    return "uint8_t *" if kind == "*u8" else renamed(kind, C_NUMBERS, 1)
+    return renamed(kind, C_NUMBERS, 1)
 
 
 def rust_type(kind):
-    return "*mut u8" if kind == "*u8" else renamed(kind, {}, 2)
+    return renamed(kind, {}, 2)
 
 
 def c_assertions(layouts):

@@ -1,4 +1,6 @@
-/* The session that paper 01 prints, through the firmware library: two distances, a move of 1,000 ticks, readings. */
+/* The session that paper 01 prints, through the firmware library: two distances, a move of 1,000 ticks, readings. The
+   entry of the move goes to a journal, which is printed at the end. */
+#include <inttypes.h>
 #include <stdio.h>
 #include <string.h>
 
@@ -19,6 +21,21 @@ static temixohuel_controller line(temixohuel_controller bench, const char *text)
     return receive(bench, '\r');
 }
 
+/* The journal and its length. An entry that has no space is left out: the length stays. */
+static uint8_t journal[40 * TEMIXOHUEL_ENTRY];
+static size_t length;
+
+/* The journal, an entry to a line: ticks moved, cause, travels. */
+static void print_journal(void) {
+    temixohuel_read_answer move = temixohuel_read(journal, length, 0);
+    for (; move.found; move = temixohuel_read(journal, length, move.next)) {
+        printf("journal: %" PRIu64 " %d", move.entry.ticks, move.entry.cause);
+        for (int axis = 0; axis < TEMIXOHUEL_AXES; axis++)
+            printf(" %" PRId32, move.entry.travels[axis]);
+        putchar('\n');
+    }
+}
+
 /* Ticks with one input word; the sums of the signed pulses are printed. */
 static temixohuel_controller ticks(temixohuel_controller bench, int count, uint32_t word) {
     int sums[TEMIXOHUEL_AXES] = {0};
@@ -26,6 +43,8 @@ static temixohuel_controller ticks(temixohuel_controller bench, int count, uint3
         temixohuel_tick_answer answer = temixohuel_tick(bench, word);
         for (int axis = 0; axis < TEMIXOHUEL_AXES; axis++)
             sums[axis] += answer.pulses[axis];
+        if (answer.ended)
+            length = temixohuel_append(journal, sizeof journal, length, answer.entry).next;
         bench = answer.controller;
     }
     printf("%d %d %d %d %d\n", sums[0], sums[1], sums[2], sums[3], sums[4]);
@@ -40,5 +59,6 @@ int main(void) {
     bench = ticks(bench, 1000, 0);
     bench = line(bench, "q01");
     line(bench, "Q06");
+    print_journal();
     return 0;
 }

@@ -5,12 +5,16 @@
  * - A controller is one that power-on and these calls alone made: the `controller` of an answer of temixohuel_power_on,
  *   temixohuel_byte or temixohuel_tick. No byte of it is read, written or compared.
  * - One call at a time: each gets the controller that the last byte, tick or power-on answered.
- * - buf has length bytes, and they overlap no controller and no answer.
- * Nothing else is asked: every switch, byte, word, length and content of a buffer is dealt with.
+ * - buf or bytes has length bytes, and they overlap no controller and no answer.
+ * Nothing else is asked: every switch, byte, word, length, place, entry and content of a buffer is dealt with.
+ *
+ * A journal is the front part of memory of the caller's, who keeps its length: each append is given the place that the
+ * one before it answered, and a read the journal's length, which is the last of these places.
  */
 #ifndef TEMIXOHUEL_H
 #define TEMIXOHUEL_H
 
+#include <stdbool.h>
 #include <stddef.h>
 #include <stdint.h>
 
@@ -21,6 +25,8 @@ extern "C" {
 #define TEMIXOHUEL_AXES 5
 /* The least length of a buffer lent for a reply. */
 #define TEMIXOHUEL_REPLY 120
+/* The greatest length of an entry in a journal. */
+#define TEMIXOHUEL_ENTRY 23
 
 /* Why something was turned away. */
 enum {
@@ -41,12 +47,22 @@ enum {
     TEMIXOHUEL_LONGER = 14,         /* start: an axis longer than the master */
     TEMIXOHUEL_NO_DISTANCE = 15,    /* start: master distance 0 */
     TEMIXOHUEL_BLOCKED = 16,        /* start: an axis blocked */
-    TEMIXOHUEL_POSITION = 17        /* start: a final position out of range */
+    TEMIXOHUEL_POSITION = 17,       /* start: a final position out of range */
+    TEMIXOHUEL_SPACE = 22,          /* append: no space for the whole entry; nothing is written */
+    TEMIXOHUEL_CUT = 23,            /* read: the bytes end within an entry */
+    TEMIXOHUEL_SPELLING = 24        /* a value out of range; read: or no shortest spelling of seven groups at most */
 };
 
 typedef struct {
-    uint32_t opaque[63];
+    uint32_t opaque[64];
 } temixohuel_controller;
+
+/* A move that ended. */
+typedef struct {
+    uint64_t ticks;                 /* ticks moved, the ending one included: 1 to 2^45 - 1 */
+    uint8_t cause;                  /* 0: the master's distance is complete; 1: stopped */
+    int32_t travels[TEMIXOHUEL_AXES]; /* signed pulses: -524,287 to 524,287 */
+} temixohuel_entry;
 
 typedef struct {
     temixohuel_controller controller;
@@ -65,6 +81,8 @@ typedef struct {
     uint32_t second;
     int8_t pulses[TEMIXOHUEL_AXES]; /* -1, 0 or 1 */
     uint8_t number;                 /* 0, 3, or 12 to 17 of a waiting start that failed */
+    bool ended;                     /* the tick ends a move */
+    temixohuel_entry entry;         /* of that move; all zeros without an end */
 } temixohuel_tick_answer;
 
 typedef struct {
@@ -75,13 +93,25 @@ typedef struct {
     int64_t axes[TEMIXOHUEL_AXES];
 } temixohuel_position_answer;
 
+typedef struct {
+    size_t next;                    /* the place after the entry; the given one where it is refused */
+    uint8_t number;                 /* 0, 22 or 24 */
+} temixohuel_append_answer;
+
+typedef struct {
+    temixohuel_entry entry;         /* all zeros where none is found */
+    size_t next;                    /* the place after the entry; the given one where none is found */
+    bool found;
+    uint8_t number;                 /* 0, 23 or 24; 0 with none found is the journal's end */
+} temixohuel_read_answer;
+
 /* A fresh controller. */
 temixohuel_power_answer temixohuel_power_on(uint8_t switch_);
 
 /* A received byte; a reply is written to the front of buf, and the bytes after it keep their values. */
 temixohuel_byte_answer temixohuel_byte(temixohuel_controller c, uint8_t *buf, size_t length, uint8_t b);
 
-/* A tick of 4 us, with its input word. */
+/* A tick of 4 us, with its input word. The tick that ends a move, and no other, answers its entry. */
 temixohuel_tick_answer temixohuel_tick(temixohuel_controller c, uint32_t word);
 
 /* The pulses of each axis in the latest move; the signed pulses since power-on or the last position reset. */
@@ -92,6 +122,12 @@ temixohuel_position_answer temixohuel_positions(temixohuel_controller c);
 uint8_t temixohuel_status(temixohuel_controller c);
 uint32_t temixohuel_speed(temixohuel_controller c);
 uint32_t temixohuel_slope(temixohuel_controller c);
+
+/* An entry written at the place at of a journal; the bytes before and after it keep their values. 24 is before 22. */
+temixohuel_append_answer temixohuel_append(uint8_t *buf, size_t length, size_t at, temixohuel_entry entry);
+
+/* The entry at the place at of a journal of length bytes. */
+temixohuel_read_answer temixohuel_read(const uint8_t *bytes, size_t length, size_t at);
 
 #ifdef __cplusplus
 }

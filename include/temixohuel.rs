@@ -1,12 +1,23 @@
 //! The blending controller for firmware in Rust: link target/staticlib/libfirmware.a (`rt staticlib firmware`).
 //!
 //! What include/temixohuel.h asks of a caller in C is here a type: the field of `Controller` is private, so that only
-//! power-on and calls make one, and `&mut` keeps calls and memory apart. The numbers are those of the header.
+//! power-on and calls make one, and `&mut` keeps calls and memory apart. The numbers are those of the header. A journal
+//! is bytes of the caller's: `append` and `read` take any.
 
 /// A controller of the library. No byte of it means anything here.
 #[repr(C)]
 #[derive(Clone, Copy)]
-struct Opaque([u32; 63]);
+struct Opaque([u32; 64]);
+
+/// A move that ended: ticks moved, the ending one included, 0 for a complete master's distance or 1 for stopped, and
+/// the signed travels.
+#[repr(C)]
+#[derive(Clone, Copy, Debug, PartialEq, Eq)]
+pub struct Entry {
+    pub ticks: u64,
+    pub cause: u8,
+    pub travels: [i32; 5],
+}
 
 #[repr(C)]
 struct PowerAnswer {
@@ -23,7 +34,8 @@ pub struct ByteAnswer {
     pub number: u8,
 }
 
-/// What a tick answers: the output words of its two halves, the five pulses, and its number.
+/// What a tick answers: the output words of its two halves, the five pulses, its number, and whether it ends a move,
+/// with the entry of that move; an entry without an end is all zeros.
 #[repr(C)]
 #[derive(Clone, Copy)]
 pub struct TickAnswer {
@@ -32,6 +44,8 @@ pub struct TickAnswer {
     pub second: u32,
     pub pulses: [i8; 5],
     pub number: u8,
+    pub ended: bool,
+    pub entry: Entry,
 }
 
 #[repr(C)]
@@ -44,6 +58,25 @@ struct PositionAnswer {
     axes: [i64; 5],
 }
 
+/// What an append answers: the place after the entry and 0; or the given place and 22 or 24.
+#[repr(C)]
+#[derive(Clone, Copy, Debug, PartialEq, Eq)]
+pub struct AppendAnswer {
+    pub next: usize,
+    pub number: u8,
+}
+
+/// What a read answers: an entry that was found and the place after it; or an entry of zeros, the given place, and 0
+/// for the journal's end, 23 or 24.
+#[repr(C)]
+#[derive(Clone, Copy, Debug, PartialEq, Eq)]
+pub struct ReadAnswer {
+    pub entry: Entry,
+    pub next: usize,
+    pub found: bool,
+    pub number: u8,
+}
+
 extern "C" {
     fn temixohuel_power_on(switch: u8) -> PowerAnswer;
     fn temixohuel_byte(c: Opaque, buf: *mut u8, length: usize, b: u8) -> ByteAnswer;
@@ -53,6 +86,8 @@ extern "C" {
     fn temixohuel_status(c: Opaque) -> u8;
     fn temixohuel_speed(c: Opaque) -> u32;
     fn temixohuel_slope(c: Opaque) -> u32;
+    fn temixohuel_append(buf: *mut u8, length: usize, at: usize, entry: Entry) -> AppendAnswer;
+    fn temixohuel_read(bytes: *const u8, length: usize, at: usize) -> ReadAnswer;
 }
 
 /// A controller that power-on and calls made.
@@ -104,4 +139,14 @@ impl Controller {
     pub fn slope(&self) -> u32 {
         unsafe { temixohuel_slope(self.0) }
     }
+}
+
+/// An entry written at a place of a journal; the bytes before and after it keep their values.
+pub fn append(buf: &mut [u8], at: usize, entry: Entry) -> AppendAnswer {
+    unsafe { temixohuel_append(buf.as_mut_ptr(), buf.len(), at, entry) }
+}
+
+/// The entry at a place of a journal.
+pub fn read(bytes: &[u8], at: usize) -> ReadAnswer {
+    unsafe { temixohuel_read(bytes.as_ptr(), bytes.len(), at) }
 }

@@ -12,10 +12,11 @@ pub struct Answers {
     numbers: BTreeMap<String, u64>,
 }
 
-/// A number of the paper at the front of the answers to W, B and F, or the question mark.
+/// A number of the papers at the front of the answers to W, B, F, A and J, `--` for the end of a journal, or the
+/// question mark.
 fn number_of(line: &[u8], answer: &str) -> Option<String> {
     let first = answer.split(' ').next().unwrap_or_default();
-    (first == "?" || b"WBF".contains(&line[0])).then(|| first.to_string())
+    (first == "?" || b"WBFAJ".contains(&line[0])).then(|| first.to_string())
 }
 
 impl Answers {
@@ -49,6 +50,6 @@ fn in_words<K: fmt::Display>(counts: &BTreeMap<K, u64>) -> String {
 impl fmt::Display for Answers {
     fn fmt(&self, f: &mut fmt::Formatter) -> fmt::Result {
         writeln!(f, "  lines: {}", in_words(&self.letters))?;
-        writeln!(f, "  numbers of W, B and F, and question marks: {}", in_words(&self.numbers))
+        writeln!(f, "  numbers of W, B, F, A and J, ends of journals, and question marks: {}", in_words(&self.numbers))
     }
 }

@@ -2,6 +2,7 @@
 
 use crate::played::Readings;
 use reference::digest::mix;
+use reference::journal::Entry;
 use reference::{ByteAnswer, TickAnswer};
 
 /// Positions join the digest with this added.
@@ -12,19 +13,27 @@ pub fn power_on(number: u8) -> u32 {
     mix(0, number as u32, 0, 0)
 }
 
-/// The digest after a tick: both words, and the pulses as digits of base 3 with the number above them.
+/// The entry of a tick joins by its numbers: ticks in two halves, cause, travels raised by 2 to the 31.
+fn after_entry(digest: u32, entry: &Entry) -> u32 {
+    let [a, b, c, d, e] = entry.travels.map(|travel| (travel as u32).wrapping_add(1 << 31));
+    let counted = mix(digest, entry.ticks as u32, (entry.ticks >> 32) as u32, entry.cause as u32);
+    mix(mix(counted, a, b, c), d, e, 0)
+}
+
+/// The digest after a tick: its entry; then both words, and the pulses as digits of base 3 with the number above them.
 pub fn after_tick(digest: u32, answer: &TickAnswer) -> u32 {
     let mut code = 256 * answer.number as u32;
     for (pulse, weight) in answer.pulses.iter().zip([1, 3, 9, 27, 81]) {
         code += weight * if *pulse < 0 { 2 } else { *pulse as u32 };
     }
-    mix(digest, answer.words[0], answer.words[1], code)
+    let entered = answer.entry.iter().fold(digest, after_entry);
+    mix(entered, answer.words[0], answer.words[1], code)
 }
 
 /// The digest after a received byte: the length of the reply, the number, and what counts of the lent buffer.
 pub fn after_byte(digest: u32, answer: ByteAnswer, counted: &[u8]) -> u32 {
-    let digest = mix(digest, answer.len as u32, answer.number as u32, 0);
-    counted.iter().fold(digest, |digest, &byte| mix(digest, byte as u32, 0, 0))
+    let told = mix(digest, answer.len as u32, answer.number as u32, 0);
+    counted.iter().fold(told, |digest, &byte| mix(digest, byte as u32, 0, 0))
 }
 
 /// The digest after the readings: travel and position of each axis, then status, speed and slope.

@@ -12,6 +12,7 @@ pub mod counted;
 pub mod coverage;
 pub mod digest;
 pub mod hosted;
+pub mod journal;
 pub mod line;
 pub mod list;
 pub mod observed;

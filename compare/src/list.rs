@@ -3,6 +3,7 @@
 use crate::bench::Called;
 use crate::call::{Call, BYTE, TICKS};
 use crate::coverage::Coverage;
+use crate::journal::Journal;
 use crate::operator::Operator;
 use crate::played::{Played, Readings};
 use crate::random::{part, Random};
@@ -70,24 +71,53 @@ fn answer(machine: &mut impl Played, call: Call) -> Answer {
     }
 }
 
+/// Both machines, and the journal of the entries that they answer.
+struct Both {
+    ours: Controller,
+    theirs: Machine,
+    journal: Journal,
+}
+
+impl Both {
+    /// Power-on, or the difference in words.
+    fn power_on(switch: u8) -> Result<Both, String> {
+        let ((ours, our), (theirs, their)) = (Controller::power_on(switch), Machine::power_on(switch));
+        if our != their {
+            return Err(format!("power-on: library answers number {our}, reference {their}\n"));
+        }
+        Ok(Both { ours, theirs, journal: Journal::default() })
+    }
+
+    /// One call, of ticks a single one, whose entry joins the journal; or the difference in words.
+    fn call(&mut self, call: Call) -> Result<(), String> {
+        let Both { ours, theirs, journal } = self;
+        let (our, their) = (answer(ours, call), answer(theirs, call));
+        if our != their {
+            return Err(format!("library:   {our}\nreference: {their}\nreference after it: {theirs:?}\n"));
+        }
+        match our {
+            Answer::Tick(TickAnswer { entry: Some(entry), .. }) => journal.append(entry),
+            _ => Ok(()),
+        }
+    }
+}
+
 /// The first difference: the calls until there, of ticks the last one alone counted, and both answers in words.
 fn first_difference(switch: u8, calls: &[Call]) -> Option<(Vec<Call>, String)> {
-    let ((mut ours, our), (mut theirs, their)) = (Controller::power_on(switch), Machine::power_on(switch));
-    if our != their {
-        return Some((Vec::new(), format!("power-on: library answers number {our}, reference {their}\n")));
-    }
+    let mut both = match Both::power_on(switch) {
+        Ok(both) => both,
+        Err(words) => return Some((Vec::new(), words)),
+    };
     for (at, &call) in calls.iter().enumerate() {
         let times = if call.kind == TICKS { call.count } else { 1 };
         for time in 1..=times {
-            let (our, their) = (answer(&mut ours, call), answer(&mut theirs, call));
-            if our != their {
+            if let Err(words) = both.call(call) {
                 let last = if call.kind == TICKS { Call::ticks(time, call.value) } else { call };
-                let words = format!("library:   {our}\nreference: {their}\nreference after it: {theirs:?}\n");
                 return Some(([&calls[..at], &[last]].concat(), words));
             }
         }
     }
-    None
+    both.journal.read_back().err().map(|words| (calls.to_vec(), words))
 }
 
 /// Every call in words, one to a line.

@@ -3,6 +3,7 @@
 use crate::bits::{BLOCKED, BY_SENSOR, HELD, MOVING, STOPPED};
 use crate::call::LONGEST_LENT;
 use crate::coverage::{Cause, Coverage};
+use reference::journal::Entry;
 use reference::{ByteAnswer, Machine};
 
 /// A reference machine whose answers are counted.
@@ -63,14 +64,13 @@ impl Observed {
     }
 
     fn tick(&mut self, word: u32) {
-        let before = if self.status & MOVING == 0 { self.machine.travels() } else { [0; 5] };
         let answer = self.machine.tick(word);
         self.seen.ticks += 1;
         self.seen.moves.pulses += answer.pulses.iter().any(|&pulse| pulse != 0) as u64;
         if answer.number != 0 {
             self.seen.number(answer.number);
         }
-        self.follow_tick(before);
+        self.follow_tick(answer.entry);
     }
 
     fn begin_move(&mut self) {
@@ -89,15 +89,10 @@ impl Observed {
         }
     }
 
-    /// A stored start shows by bit 1, or, where the move ends in its first tick, by travels that are 0 again.
-    fn stored_start(&self, before: u32, travels: [u32; 5]) -> bool {
-        let begun = self.status & !before & MOVING != 0;
-        before & MOVING == 0 && (begun || travels != [0; 5] && self.machine.travels() == [0; 5])
-    }
-
-    fn follow_tick(&mut self, travels: [u32; 5]) {
+    /// A stored start shows by bit 1, or, where the move ends in its first tick, by the entry.
+    fn follow_tick(&mut self, entry: Option<Entry>) {
         let before = std::mem::replace(&mut self.status, self.machine.status());
-        let started = self.stored_start(before, travels);
+        let started = before & MOVING == 0 && (self.status & MOVING != 0 || entry.is_some());
         if started {
             self.begin_move();
             self.seen.moves.stored_starts += 1;
@@ -106,8 +101,8 @@ impl Observed {
             return;
         }
         self.follow_causes(if started { before & HELD } else { before });
-        if self.status & MOVING == 0 {
-            self.end_move();
+        if let Some(entry) = entry {
+            self.seen.moves.end(entry.cause, self.stop_begun);
         }
     }
 
@@ -124,13 +119,5 @@ impl Observed {
             self.seen.moves.cause(Cause::Sensor);
         }
         self.stop_begun |= self.status & (STOPPED | HELD | BY_SENSOR) != 0;
-    }
-
-    fn end_move(&mut self) {
-        if self.stop_begun {
-            self.seen.moves.stopped += 1;
-        } else {
-            self.seen.moves.whole += 1;
-        }
     }
 }

@@ -1,6 +1,7 @@
 //! The two machines that are compared, asked alike: the proved controller through its firmware library, the reference.
 
-use crate::temixohuel::Controller;
+use crate::temixohuel::{self, Controller};
+use reference::journal::Entry;
 use reference::{ByteAnswer, Machine, TickAnswer};
 
 /// What a machine tells and no call alters.
@@ -21,6 +22,32 @@ pub trait Played: Sized {
     fn readings(&self) -> Readings;
 }
 
+/// What the library has for an entry in the answer of a tick that ends no move.
+pub const NO_ENTRY: temixohuel::Entry = temixohuel::Entry { ticks: 0, cause: 0, travels: [0; 5] };
+
+impl From<temixohuel::Entry> for Entry {
+    fn from(entry: temixohuel::Entry) -> Entry {
+        let temixohuel::Entry { ticks, cause, travels } = entry;
+        Entry { ticks, cause, travels }
+    }
+}
+
+impl From<Entry> for temixohuel::Entry {
+    fn from(entry: Entry) -> temixohuel::Entry {
+        let Entry { ticks, cause, travels } = entry;
+        temixohuel::Entry { ticks, cause, travels }
+    }
+}
+
+/// The entry of a tick. One without an end that is not all zeros is told as no machine's, so that it differs from any.
+fn entry_of(answer: &temixohuel::TickAnswer) -> Option<Entry> {
+    match (answer.ended, answer.entry == NO_ENTRY) {
+        (true, _) => Some(answer.entry.into()),
+        (false, true) => None,
+        (false, false) => Some(Entry { ticks: u64::MAX, ..answer.entry.into() }),
+    }
+}
+
 impl Played for Controller {
     fn power_on(switch: u8) -> (Controller, u8) {
         Controller::power_on(switch)
@@ -33,7 +60,8 @@ impl Played for Controller {
 
     fn tick(&mut self, word: u32) -> TickAnswer {
         let answer = Controller::tick(self, word);
-        TickAnswer { pulses: answer.pulses, words: [answer.first, answer.second], number: answer.number }
+        let (words, entry) = ([answer.first, answer.second], entry_of(&answer));
+        TickAnswer { pulses: answer.pulses, words, number: answer.number, entry }
     }
 
     fn readings(&self) -> Readings {

@@ -3,6 +3,7 @@
 mod block;
 mod command;
 mod figure;
+mod journal;
 
 use crate::random::Random;
 use crate::touch::Touch;
@@ -50,13 +51,15 @@ fn damaged(random: &mut Random, line: String) -> Vec<u8> {
 
 /// One line without its line feed. Each prints one line.
 pub fn line(random: &mut Random) -> Vec<u8> {
-    let line = match random.below(20) {
+    let line = match random.below(26) {
         0..=6 => command::line(random),
         7..=12 => block::line(random),
         13..=14 => distances(random),
         15..=17 => figure::read_back(random),
         18 => figure::shown(random),
-        _ => figure::pair(random),
+        19 => figure::pair(random),
+        20..=22 => journal::written(random),
+        _ => journal::read(random),
     };
     if random.chance(2) {
         damaged(random, line)

@@ -1,6 +1,7 @@
-//! Reference of the five-pump blending controller, written from paper 01 and, where that is silent, the manual.
+//! Reference of the five-pump blending controller, written from paper 01 and, where that is silent, the manual; the
+//! journal from paper 02, 1/14.
 //!
-//! Each rule is a small function; its comment names the section of paper 01 that holds the rule.
+//! Each rule is a small function; its comment names the section of paper 01 that holds the rule, or the journal.
 
 #![forbid(unsafe_code)]
 
@@ -13,10 +14,12 @@ pub mod fields;
 pub mod figures;
 pub mod host;
 pub mod inputs;
+pub mod journal;
 pub mod line;
 pub mod lists;
 pub mod machine;
 pub mod make_host;
+pub mod make_journal;
 pub mod make_lists;
 pub mod output;
 pub mod ramp;
@@ -29,4 +32,5 @@ pub mod vectors;
 pub use command::{Command, CommandValue};
 pub use figures::{figures_of, Figures, Setting};
 pub use host::{pick_master, read_block, write_line, Block, Reading};
+pub use journal::Entry;
 pub use machine::{front, ByteAnswer, Machine, TickAnswer};

@@ -2,6 +2,7 @@
 
 use crate::digest::mix;
 use crate::fields::{digits, eight_digits, printed, run_lines, split, two_digits};
+use crate::journal::Entry;
 use crate::line::with_line_end;
 use crate::machine::{ByteAnswer, Machine, TickAnswer, LEAST_REPLY_BUFFER};
 use std::io::{self, BufRead, Write};
@@ -35,11 +36,8 @@ fn power_on_digest(number: u8) -> u32 {
 
 /// Stored lists: the answer of a received byte, then each byte of the whole lent buffer.
 fn byte_digest(digest: u32, answer: ByteAnswer, buf: &[u8]) -> u32 {
-    let mut digest = mix(digest, answer.len as u32, answer.number as u32, 0);
-    for &byte in buf {
-        digest = mix(digest, byte as u32, 0, 0);
-    }
-    digest
+    let digest = mix(digest, answer.len as u32, answer.number as u32, 0);
+    buf.iter().fold(digest, |digest, &byte| mix(digest, byte as u32, 0, 0))
 }
 
 /// Stored lists: a pulse is 0, 1, or 2 for -1.
@@ -62,8 +60,21 @@ fn pulses_and_number(answer: &TickAnswer) -> u32 {
     sum
 }
 
-/// Stored lists: the answer of a tick.
+/// Stored lists: a signed travel with 2,147,483,648 added.
+fn travel_figure(travel: i32) -> u32 {
+    (travel as i64 + 2_147_483_648) as u32
+}
+
+/// Stored lists: both halves of an entry's ticks and its cause, then travels of axes 0, 1 and 2, then of 3 and 4.
+pub fn entry_digest(digest: u32, entry: &Entry) -> u32 {
+    let [t0, t1, t2, t3, t4] = entry.travels.map(travel_figure);
+    let digest = mix(digest, entry.ticks as u32, (entry.ticks >> 32) as u32, entry.cause as u32);
+    mix(mix(digest, t0, t1, t2), t3, t4, 0)
+}
+
+/// Stored lists: the entry of a tick where it answers one, then words, pulses and number.
 fn tick_digest(digest: u32, answer: &TickAnswer) -> u32 {
+    let digest = answer.entry.iter().fold(digest, entry_digest);
     mix(digest, answer.words[0], answer.words[1], pulses_and_number(answer))
 }
 

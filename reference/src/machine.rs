@@ -9,6 +9,7 @@ mod tick;
 mod travel;
 
 use crate::inputs::Inputs;
+use crate::journal::Entry;
 
 /// Turned away, 2: the least length of a reply buffer.
 pub const LEAST_REPLY_BUFFER: usize = 120;
@@ -29,12 +30,14 @@ pub struct ByteAnswer {
     pub number: u8,
 }
 
-/// What a tick answers: five pulses, two words, and the number of a waiting start that failed, or 0.
+/// What a tick answers: five pulses, two words, the number of a waiting start that failed, or 0, and the entry of the
+/// move that ends in it, if one does.
 #[derive(Clone, Copy, Debug, PartialEq, Eq)]
 pub struct TickAnswer {
     pub pulses: [i8; 5],
     pub words: [u32; 2],
     pub number: u8,
+    pub entry: Option<Entry>,
 }
 
 /// Lines: the reply is the front part of the lent buffer; for a length past the buffer's end it is empty.
@@ -77,6 +80,8 @@ pub struct Machine {
     /// Speed u in fiftieths of a unit.
     ramp_speed: u64,
     phase: u64,
+    /// Ticks of the latest move in which its ramp ran.
+    move_ticks: u64,
     positions: [i32; 5],
     /// Ticks left of the dwell.
     dwell: u32,
@@ -110,6 +115,7 @@ impl Machine {
             stopping: false,
             ramp_speed: 0,
             phase: 0,
+            move_ticks: 0,
             positions: [0; 5],
             dwell: 0,
             waiting: None,

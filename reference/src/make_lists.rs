@@ -3,6 +3,7 @@
 mod crooked;
 mod drawn;
 mod emergency;
+mod entries;
 mod extremes;
 mod failing_starts;
 mod limits;
@@ -46,6 +47,7 @@ pub fn lists_text() -> String {
     crooked::crooked_moves(&mut text);
     extremes::extremes(&mut text);
     watch::watch(&mut text);
+    entries::entries(&mut text);
     drawn::drawn_lists(&mut text);
     other_forms::other_forms(&mut text);
     text.ended()

@@ -1,15 +1,17 @@
-//! Stored vectors of the host end: each line asks the writer, the reader, the master picker or the figures.
+//! Stored vectors: each line asks the writer, the reader, the master picker, the figures or the journal.
 
 mod figures;
+mod journal;
 mod kind;
 mod reader;
 mod writer;
 
-use crate::fields::{eight_digits, printed, run_lines, split};
+use crate::fields::{bytes_text, eight_digits, printed, run_lines, split};
 use crate::host::pick_master;
 use std::io::{self, BufRead, Write};
 
 pub use figures::LARGEST_WHOLE;
+pub use journal::MOST_JOURNAL_BYTES;
 pub use reader::MOST_READER_BYTES;
 pub use writer::{BYTE_BEFORE, LONGEST_LINE_BUFFER};
 
@@ -19,6 +21,14 @@ fn answer_text(answer: Result<String, u8>) -> String {
         Ok(text) => format!("00 {text}"),
         Err(number) => format!("{number:02}"),
     }
+}
+
+/// Stored vectors, W and A: number, length of the line or place after the entry, each byte of the whole buffer.
+fn written_text(number: u8, end: usize, buf: &[u8]) -> String {
+    if buf.is_empty() {
+        return format!("{number:02} {end:02X}\n");
+    }
+    format!("{number:02} {end:02X} {}\n", bytes_text(buf))
 }
 
 /// Stored vectors, M: the master picker, of the distances of axes 0 to 4.
@@ -44,6 +54,8 @@ fn obey(line: &[u8]) -> Option<String> {
         [b"U", kind, n] => figures::units_line(kind, n),
         [b"D", kind] => figures::digest_line(kind),
         [b"G", speed, slope] => figures::pair_line(speed, slope),
+        [b"A", ..] => journal::append_line(&fields[1..]),
+        [b"J", place, bytes] => journal::read_line(place, bytes),
         _ => None,
     }
 }

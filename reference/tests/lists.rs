@@ -3,7 +3,8 @@
 mod common;
 use common::programs;
 use reference::digest::mix;
-use reference::lists::{play, run, Call, List};
+use reference::lists::{entry_digest, play, run, Call, List};
+use reference::Entry;
 
 /// What the program prints for an input.
 fn printed(input: &[u8]) -> String {
@@ -92,12 +93,45 @@ fn after(lines: &str) -> Vec<Call> {
 
 #[test]
 fn a_pulse_of_minus_1_is_2() {
-    // Axis 0 plus, axis 1 minus, axis 4 minus, one pulse each, in tick 207; bits 3 and 9 are directions.
-    let setup = "L P0000001\nL P0180001\nL P0480001\nL P08F4240\nL P0900FFF\nL Q080\nT 0000CE 00000000";
+    // Axis 0 plus, axes 1 and 4 minus, one pulse each, in tick 156 of a longer move; bits 3 and 9 are directions.
+    let setup = "L P0000009\nL P0180009\nL P0480009\nL P08F4240\nL P0900FFF\nL Q080\nT 00009B 00000000";
     let mut calls = after(setup);
     let before = play(0, &calls);
     calls.push(Call::Ticks { count: 1, word: 0 });
     assert_eq!(play(0, &calls), mix(before, 0x30D, 0x208, 1 + 3 * 2 + 81 * 2));
+}
+
+#[test]
+fn an_entry_mixes_in_its_numbers() {
+    // The most ticks: 2 to the 45, less 1, is 8,191 times 2 to the 32 and 2 to the 32, less 1. The longest travels.
+    let entry = Entry { ticks: (1 << 45) - 1, cause: 1, travels: [524_287, -524_287, 0, -1, 1] };
+    let ticks = mix(7, 0xFFFF_FFFF, 8_191, 1);
+    let travels = mix(ticks, 0x8007_FFFF, 0x7FF8_0001, 0x8000_0000);
+    assert_eq!(entry_digest(7, &entry), mix(travels, 0x7FFF_FFFF, 0x8000_0001, 0));
+    // Any signed number of 32 bits has its place; 2 to the 32 has 0 in its low half.
+    let entry = Entry { ticks: 1 << 32, cause: 0, travels: [i32::MIN, i32::MAX, 2, i32::MAX, i32::MIN] };
+    let travels = mix(mix(0, 0, 1, 0), 0, 0xFFFF_FFFF, 0x8000_0002);
+    assert_eq!(entry_digest(0, &entry), mix(travels, 0xFFFF_FFFF, 0, 0));
+    // Only 0 is mixed in but for 4 and 8 in the last three: minus 140, minus 24.
+    let entry = Entry { ticks: 0, cause: 0, travels: [i32::MIN, i32::MIN, i32::MIN, i32::MIN + 4, i32::MIN + 8] };
+    assert_eq!(entry_digest(0, &entry), 0xFFFF_FF5C);
+}
+
+#[test]
+fn an_entry_is_mixed_in_before_words_pulses_and_number() {
+    // One pulse each of axis 0 plus, axis 1 minus, axis 4 minus, in tick 207, which ends the move.
+    let mut calls = after("L P0000001\nL P0180001\nL P0480001\nL P08F4240\nL P0900FFF\nL Q080\nT 0000CE 00000000");
+    let before = play(0, &calls);
+    calls.push(Call::Ticks { count: 1, word: 0 });
+    let travels = mix(mix(before, 207, 0, 0), 0x8000_0001, 0x7FFF_FFFF, 0x8000_0000);
+    let entry = mix(travels, 0x8000_0000, 0x7FFF_FFFF, 0);
+    assert_eq!(play(0, &calls), mix(entry, 0x30D, 0x208, 1 + 3 * 2 + 81 * 2));
+    // Stopped in its first tick: 1 tick, cause 1, no travel, and only directions show. The next tick has no entry.
+    let mut calls = after("L P0000001\nL P0180001\nL Q080\nL Q09");
+    let travels = mix(mix(play(0, &calls), 1, 0, 1), 0x8000_0000, 0x8000_0000, 0x8000_0000);
+    let entry = mix(travels, 0x8000_0000, 0x8000_0000, 0);
+    calls.push(Call::Ticks { count: 2, word: 0 });
+    assert_eq!(play(0, &calls), mix(mix(entry, 0x008, 0x008, 0), 0x008, 0x008, 0));
 }
 
 #[test]

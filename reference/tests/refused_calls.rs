@@ -43,7 +43,7 @@ fn number_3() {
     for word in [16_777_216, 16_777_217, u32::MAX] {
         let before = machine.clone();
         let answer = machine.tick(word);
-        assert_eq!((answer.pulses, answer.words, answer.number), ([0; 5], [0, 0], 3));
+        assert_eq!((answer.pulses, answer.words, answer.number, answer.entry), ([0; 5], [0, 0], 3, None));
         assert_eq!(machine, before);
     }
     assert_eq!(machine.tick(16_777_215).number, 0);

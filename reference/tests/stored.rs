@@ -2,6 +2,7 @@
 
 use reference::lists::{Call, List};
 use reference::make_host::host_text;
+use reference::make_journal::journal_text;
 use reference::make_lists::lists_text;
 use reference::{vectors, Machine};
 use std::collections::BTreeSet;
@@ -153,7 +154,7 @@ fn stored_vectors_reach_every_answer() {
 
 #[test]
 fn stored_texts_are_plain() {
-    for text in [lists_text(), host_text()] {
+    for text in [lists_text(), host_text(), journal_text()] {
         assert!(text.bytes().all(|byte| byte == b'\n' || (0x20..0x7F).contains(&byte)));
         assert!(text.lines().filter(|line| line.starts_with('#')).all(|line| line.len() <= 100));
         assert_eq!(text.lines().filter(|line| line.len() > 100).count(), 1);

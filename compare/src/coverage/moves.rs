@@ -1,6 +1,7 @@
 //! Counters of moves: how they began, what stopped them, how they ended.
 
 use crate::counted::{add_each, grouped, listed};
+use reference::journal::COMPLETE;
 use std::fmt;
 
 /// Causes of a stop in the order of `CAUSE_NAMES`.
@@ -19,9 +20,13 @@ const CAUSE_NAMES: [&str; 5] = ["order", "limit", "watch", "emergency", "sensor"
 pub struct Moves {
     pub starts: u64,
     pub stored_starts: u64,
-    pub whole: u64,
-    pub stopped: u64,
     pub pulses: u64,
+    /// Entries of cause 0 with no stop begun.
+    whole: u64,
+    /// Entries of cause 0 with a stop begun.
+    whole_in_stop: u64,
+    /// Entries of cause 1.
+    stopped: u64,
     causes: [u64; 5],
 }
 
@@ -30,12 +35,22 @@ impl Moves {
         self.causes[cause as usize] += 1;
     }
 
+    /// A move that ended, by the cause of its entry and by whether a stop had begun.
+    pub fn end(&mut self, cause: u8, stop_begun: bool) {
+        match (cause, stop_begun) {
+            (COMPLETE, false) => self.whole += 1,
+            (COMPLETE, true) => self.whole_in_stop += 1,
+            _ => self.stopped += 1,
+        }
+    }
+
     pub fn add(&mut self, more: &Moves) {
         self.starts += more.starts;
         self.stored_starts += more.stored_starts;
-        self.whole += more.whole;
-        self.stopped += more.stopped;
         self.pulses += more.pulses;
+        self.whole += more.whole;
+        self.whole_in_stop += more.whole_in_stop;
+        self.stopped += more.stopped;
         add_each(&mut self.causes, &more.causes);
     }
 }
@@ -45,9 +60,10 @@ impl fmt::Display for Moves {
         let g = grouped;
         let stored = format!("of these {} stored ones in their tick", g(self.stored_starts));
         writeln!(f, "  starts that took effect {}, {stored}; master pulses {}", g(self.starts), g(self.pulses))?;
-        let running = self.starts - self.whole - self.stopped;
-        let ended = format!("moves ended whole {}, stopped {}", g(self.whole), g(self.stopped));
-        writeln!(f, "  {ended}, cut off {}", g(running))?;
+        let complete = self.whole + self.whole_in_stop;
+        let in_stop = format!("of these {} with a stop begun", g(self.whole_in_stop));
+        write!(f, "  moves ended, entries of cause 0 {}, {in_stop}, of cause 1 {}", g(complete), g(self.stopped))?;
+        writeln!(f, "; cut off {}", g(self.starts - complete - self.stopped))?;
         let causes = CAUSE_NAMES.iter().zip(self.causes);
         writeln!(f, "  stop causes that met a move: {}", listed(causes))
     }

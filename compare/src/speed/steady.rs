@@ -141,7 +141,7 @@ A tick is the least of {RUNS} runs with {} ticks less the least with {WARM_TICKS
 with {} and {WARM_LINES} lines.
 A character that joins: {TIMED_LINES} lines of {} characters less so many of {}, all turned away by 4; an over-long one:
 one line of {} less one of {WARM_CHARACTERS}. CPU time of the thread.
-The digest of all answers is included: words, pulses and number of each tick; length, number and reply of
+The digest of all answers is included: words, pulses, number and entry of each tick; length, number and reply of
 each received byte, whose {LENT} bytes lent are cleared before.
 The floor has no digest, and its lines are judged without a controller.",
         WARM_TICKS + TIMED_TICKS,

@@ -43,7 +43,7 @@ use Rattle.controller.proofs.ByteLaws.{unbiased}
 use Rattle.controller.proofs.GatherLaws.{gathers, by-characters, after-stretch}
 use Rattle.controller.proofs.ReachLaws.{after-power, after-byte, after-tick}
 
-last-held : (s : ℕ) (p : PowerOn) (l : List Answered) → Follows s p l → held (state s (callsOf l)) ≡ last p l
+pub last-held : (s : ℕ) (p : PowerOn) (l : List Answered) → Follows s p l → held (state s (callsOf l)) ≡ last p l
 last-held s p [] f = after-power s p f
 last-held s p (byte b entry exit r ∷ l) f =
     after-byte (last p l) s (callsOf l) (last-held s p l (f .0)) b entry r (f .1 .0)
@@ -52,8 +52,8 @@ last-held s p (stretch bs r ∷ l) f =
     after-stretch (last p l) s (callsOf l) (last-held s p l (f .0)) bs r (f .1 .0)
 
 -- The pulses that a tick answers are those of the machine.
-pulse-held : (s : ℕ) (p : PowerOn) (w : ℕ) (r : TickAnswer) (l : List Answered) → Follows s p (tick w r ∷ l) → (k : ℕ)
-    → k < 5 → pulseIn r k ≡ sent (state s (callsOf l)) (calls.tick w) k
+pub pulse-held : (s : ℕ) (p : PowerOn) (w : ℕ) (r : TickAnswer) (l : List Answered) → Follows s p (tick w r ∷ l)
+    → (k : ℕ) → k < 5 → pulseIn r k ≡ sent (state s (callsOf l)) (calls.tick w) k
 pulse-held s p w r l f k h =
     ap (λ (a : TickAnswer). getD (a .pulses) k (pos 0)) (f .1 .0 s (callsOf l) (last-held s p l (f .0)))
     ∙ each-at (tickStep (state s (callsOf l)) w .pulse) (pos 0) k h
@@ -72,7 +72,7 @@ signed-before s k b h e =
     ap (λ (o : Outcome). cond (resetBy (roleBy o)) (pos 0) (signed s h k +ℤ pos 0)) (gathers (state s h) b e)
     ∙ +ℤ-idr (signed s h k)
 
-count-held : (s : ℕ) (p : PowerOn) (l : List Answered) → Follows s p l → (k : ℕ) → k < 5
+pub count-held : (s : ℕ) (p : PowerOn) (l : List Answered) → Follows s p l → (k : ℕ) → k < 5
     → countIn s l k ≡ counted s (callsOf l) k
 unfolding countIn counted
 count-held s p [] f k h = refl
@@ -103,7 +103,8 @@ unfolding latest
 latest-bytes s k [] h e = e
 latest-bytes s k (b ∷ bs) h e = latest-bytes s k bs (calls.byte b buffer ∷ h) refl
 
-latest-after : (s k : ℕ) (bs : List ℕ) (h : List Call) → afterBytes bs (latest s h k) ≡ latest s (bytes bs h) k
+latest-after : (s k : ℕ) (bs : List ℕ) (h : List Call)
+    → afterBytes (pos 0) bs (latest s h k) ≡ latest s (bytes bs h) k
 unfolding latest
 latest-after s k [] h = refl
 latest-after s k (b ∷ bs) h = sym (latest-bytes s k bs (calls.byte b buffer ∷ h) refl)
@@ -115,9 +116,9 @@ latest-held s p [] f k h = refl
 latest-held s p (byte b entry exit r ∷ l) f k h = refl
 latest-held s p (tick w r ∷ l) f k h = pulse-held s p w r l f k h
 latest-held s p (stretch bs r ∷ l) f k h =
-    ap (afterBytes (beforeEnd bs)) (latest-held s p l (f .0) k h) ∙ latest-after s k (beforeEnd bs) (callsOf l)
+    ap (afterBytes (pos 0) (beforeEnd bs)) (latest-held s p l (f .0) k h) ∙ latest-after s k (beforeEnd bs) (callsOf l)
 
-each-same : {A : Type 0} (f g : ℕ → A) → ((k : ℕ) → k < 5 → f k ≡ g k) → each f ≡ each g
+pub each-same : {A : Type 0} (f g : ℕ → A) → ((k : ℕ) → k < 5 → f k ≡ g k) → each f ≡ each g
 each-same f g p =
     λ i. p 0 (omega arith) i ∷ p 1 (omega arith) i ∷ p 2 (omega arith) i ∷ p 3 (omega arith) i ∷ p 4 (omega arith) i
     ∷ []

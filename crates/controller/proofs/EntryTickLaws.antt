@@ -3,13 +3,12 @@ use Prim.Native.Nat.{ℕ, _≤_, _<_}
 use mathlib.Core.Bool.{Bool, cond}
 use mathlib.Core.Path.{_≡_, sym, ap, subst, _∙_}
 use borrow.Author.Tests.{lt-ltb, le-ltb}
-use lib.IntN.{pos}
-use Rattle.laws.specs.Axes.{each}
 use Rattle.machine.specs.State.{Machine}
 use Rattle.machine.specs.Steps.{tickStep, refusedTick, ticked, tries, looks, failure}
 use Rattle.machine.specs.Stops.{takes, stops}
 use Rattle.machine.specs.Ramp.{runs}
-use Rattle.machine.proofs.FitLaws.{Fits}
+use Rattle.journal.specs.declared.Entry.{Entry}
+use Rattle.machine.proofs.FitLaws.{Fits, fits-looks, fits-stops, fits-runs}
 use Rattle.controller.specs.declared.state.Controller.{Controller}
 use Rattle.controller.specs.declared.state.TickAnswer.{TickAnswer}
 use Rattle.controller.specs.declared.state.Hot.{Hot}
@@ -17,10 +16,13 @@ use Rattle.controller.specs.declared.motion.Ran.{Ran}
 use Rattle.controller.specs.declared.dwell.Waited.{Waited}
 use Rattle.controller.specs.Held.{held, heldHot, heldCold, heldPlan, heldTick}
 use Rattle.controller.specs.Inner.Motion.{runsOf, heldRan, RunFits}
+use Rattle.controller.specs.Inner.Entry.{toldOf, TravelsFit}
+use Rattle.controller.specs.Inner.Power.{refusedOf}
 use Rattle.controller.specs.Inner.Words.{restOf, WiresFit}
 use Rattle.controller.specs.Inner.Watch.{takesOf, stopsOf}
 use Rattle.controller.specs.Inner.Dwell.{waitsOf, WaitFits}
 use Rattle.controller.proofs.TickLaws.{takes-is, wires-fit}
+use Rattle.controller.proofs.ToldLaws.{toldHeld, travels-fit}
 use Rattle.controller.proofs.StageLaws.{looks-is, stopped-is, ran-is, looks-fit, ran-fits, ticked-is}
 
 module _ (m : Machine) (w : ℕ) (f : Fits m) (self : Controller) (e : held m ≡ self) where
@@ -59,18 +61,26 @@ module _ (m : Machine) (w : ℕ) (f : Fits m) (self : Controller) (e : held m �
   run-wires ran q = subst (λ (r : Ran). WiresFit (r .hot .wires)) (sym q)
       (wires-fit (runs (stops (looks m w)) .machine))
 
-  pub tick-is : (waited : Waited) (ran : Ran) (second : ℕ) → w ≤ 16777215
+  pub run-travels : (ran : Ran) → ran ≡ heldRan (runs (stops (looks m w))) → TravelsFit (ran .hot .counters)
+  run-travels ran q = subst (λ (r : Ran). TravelsFit (r .hot .counters)) (sym q)
+      (travels-fit (runs (stops (looks m w)) .machine)
+      (fits-runs (stops (looks m w)) (fits-stops (looks m w) (fits-looks m w f))))
+
+  pub tick-is : (waited : Waited) (ran : Ran) (second : ℕ) (told : Entry) → w ≤ 16777215
       → waited ≡ record { hot = heldHot (looks m w); number = failure (tries (takes m w)) }
       → ran ≡ heldRan (runs (stops (looks m w))) → second ≡ restOf (ran .hot .wires)
+      → told ≡ toldOf (ran .ends) (ran .hot .plan) (ran .hot .counters) (ran .hot .run)
       → _≡_ {A = TickAnswer} (record {
         controller = record { hot = ran .hot; cold = self .cold };
         first = ran .first;
         second = second;
         pulses = ran .pulses;
         number = waited .number;
+        ended = ran .ends;
+        entry = told;
       })
       (heldTick (tickStep m w))
-  tick-is waited ran second h p q r =
+  tick-is waited ran second told h p q r t =
       _∙_ {b = heldTick (ticked (runs (stops (looks m w))) (failure (tries (takes m w))))}
       (_∙_ {b = record {
         controller = record { hot = heldRan (runs (stops (looks m w))) .hot; cold = heldCold m };
@@ -78,6 +88,8 @@ module _ (m : Machine) (w : ℕ) (f : Fits m) (self : Controller) (e : held m �
         second = restOf (heldRan (runs (stops (looks m w))) .hot .wires);
         pulses = heldRan (runs (stops (looks m w))) .pulses;
         number = failure (tries (takes m w));
+        ended = heldRan (runs (stops (looks m w))) .ends;
+        entry = toldHeld (runs (stops (looks m w)));
       }}
       (λ i. record {
         controller = record { hot = q i .hot; cold = sym e i .cold };
@@ -85,18 +97,17 @@ module _ (m : Machine) (w : ℕ) (f : Fits m) (self : Controller) (e : held m �
         second = (r ∙ ap (λ (x : Ran). restOf (x .hot .wires)) q) i;
         pulses = q i .pulses;
         number = p i .number;
+        ended = q i .ends;
+        entry = (t ∙ ap (λ (x : Ran). toldOf (x .ends) (x .hot .plan) (x .hot .counters) (x .hot .run)) q) i;
       })
       (ticked-is m w f))
       (ap (λ (b : Bool). heldTick (cond b (refusedTick m)
       (ticked (runs (stops (looks m w))) (failure (tries (takes m w))))))
       (sym (le-ltb 16777215 w h)))
 
-  pub tick-refused : 16777215 < w
-      → _≡_ {A = TickAnswer} (record
-      { controller = self; first = 0; second = 0; pulses = each (λ k. pos 0); number = 3 })
-      (heldTick (tickStep m w))
+  pub tick-refused : 16777215 < w → refusedOf self ≡ heldTick (tickStep m w)
   tick-refused h =
-      (λ i. record { controller = sym e i; first = 0; second = 0; pulses = each (λ (k : ℕ). pos 0); number = 3 })
+      (λ i. refusedOf (sym e i))
       ∙ ap (λ (b : Bool). heldTick (cond b (refusedTick m)
       (ticked (runs (stops (looks m w))) (failure (tries (takes m w))))))
       (sym (lt-ltb 16777215 w h))

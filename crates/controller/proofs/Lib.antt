@@ -7,6 +7,8 @@ pub mod TickLaws
 pub mod StartLaws
 pub mod PulseLaws
 mod NeedLaws
+pub mod SignLaws
+pub mod ToldLaws
 pub mod StageLaws
 pub mod ByteLaws
 pub mod EntryPowerLaws
@@ -15,4 +17,5 @@ pub mod EntryByteLaws
 pub mod ReachLaws
 pub mod GatherLaws
 pub mod AnswerLaws
+pub mod JournalAnswerLaws
 pub mod FrontLaws

@@ -1,10 +1,11 @@
 -- What the code of a tick of a move needs holds of what is held of a machine in range. Assumes nothing.
 use Prim.Native.Nat.{ℕ, _+_, _-_, _*_, _%_, _≤_, _<_}
 use mathlib.Core.Bool.{Bool, true, false}
-use mathlib.Core.Path.{_≡_, refl, sym, ap, _∙_}
+use mathlib.Core.Path.{_≡_, refl, sym, ap, subst, _∙_}
 use native.Mathlib.Omega.{arith}
 use native.Mathlib.Nat.{mod-lt}
 use Rattle.laws.proofs.Tests.{true-false}
+use Rattle.journal.specs.Entries.{ticksRange}
 use Rattle.reply.specs.Reply.{bias}
 use Rattle.reply.specs.declared.readings.Travel.{Travel}
 use Rattle.reply.specs.declared.readings.Position.{Position}
@@ -14,7 +15,7 @@ use Rattle.machine.proofs.PositionLaws.{Room}
 use Rattle.machine.proofs.FitLaws.{Fits}
 use Rattle.controller.specs.Held.{heldSettings, heldPlan, heldCounters, heldHot}
 use Rattle.controller.specs.Inner.Motion.{AxisFits, RunFits}
-use Rattle.controller.proofs.TickLaws.{each-at, wires-fit}
+use Rattle.controller.proofs.TickLaws.{each-at, halves, wires-fit}
 use Rattle.controller.proofs.AxisLaws.{axis-grows}
 
 low-room : (s : Bool) (b d t : ℕ) → Room s b (d - t) → s ≡ true → d ≤ t + b
@@ -62,6 +63,9 @@ module _ (m : Machine) (f : Fits m) where
       length = length-small;
       gone = f .move .good .under e;
       phase = f .move .phase;
+      ticks = subst (λ (n : ℕ). n < ticksRange .most) (sym (halves (m .move .ticks)))
+          (let t = f .move .ticks e in let u = f .move .good .under e in let p = f .move .phase in
+          omega (arith, t, u, p, length-small));
     };
     axes = axis-fits;
   }

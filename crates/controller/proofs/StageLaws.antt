@@ -23,6 +23,7 @@ use Rattle.controller.specs.Inner.Dwell.{waitsOf, WaitFits}
 use Rattle.controller.proofs.TickLaws.{stops-is, rest-is}
 use Rattle.controller.proofs.StartLaws.{waits-is, wait-fits}
 use Rattle.controller.proofs.PulseLaws.{run-is}
+use Rattle.controller.proofs.ToldLaws.{toldHeld, told-is}
 use Rattle.controller.proofs.NeedLaws.{run-fits}
 
 -- ---- What only bytes alter
@@ -90,6 +91,8 @@ module _ (m : Machine) (w : ℕ) (f : Fits m) where
         first = heldRan (runs (stops (looks m w))) .first;
         second = restOf (heldRan (runs (stops (looks m w))) .hot .wires);
         number = failure (tries (takes m w));
+        ended = heldRan (runs (stops (looks m w))) .ends;
+        entry = toldHeld (runs (stops (looks m w)));
       })
       (heldTick (ticked (runs (stops (looks m w))) (failure (tries (takes m w)))))
   ticked-is = λ i. record {
@@ -98,4 +101,6 @@ module _ (m : Machine) (w : ℕ) (f : Fits m) where
     first = heldRan (runs (stops (looks m w))) .first;
     second = rest-is (runs (stops (looks m w)) .machine) (runs (stops (looks m w)) .pulse) i;
     number = failure (tries (takes m w));
+    ended = heldRan (runs (stops (looks m w))) .ends;
+    entry = told-is (stops (looks m w)) i;
   }

@@ -38,7 +38,7 @@ use Rattle.controller.specs.Inner.Motion.{
   RunFits,
 }
 use Rattle.controller.specs.Inner.Words.{wordOf}
-use Rattle.controller.specs.Inner.Ramp.{rampOf, standsOf, advanceOf, paceGiven, paceOf}
+use Rattle.controller.specs.Inner.Ramp.{ticksOf, rampOf, standsOf, advanceOf, paceGiven, paceOf}
 
 pub mod-once : (n m : ℕ) → m ≤ n → n < m + m → n - m ≡ n % m
 mod-once n m h k =
@@ -141,25 +141,29 @@ module _ (s : Settings) (h : Hot) where
         first = w;
         pulses = toZ w8 (ofZ w8 (a .pulse)) ∷ toZ w8 (ofZ w8 (b .pulse)) ∷ toZ w8 (ofZ w8 (c .pulse))
             ∷ toZ w8 (ofZ w8 (d .pulse)) ∷ toZ w8 (ofZ w8 (e .pulse)) ∷ [];
+        ends = p .ends;
       })
       (runsOf s h)
   ran-is p a b c d e left hot w ep ea eb ec ed ee el eh ew =
-      _∙_ {b = runsGiven h (p .run) left a b c d e}
+      _∙_ {b = runsGiven h (p .run) (p .ends) left a b c d e}
       (λ i. record {
         hot = eh i;
         first = ew i;
         pulses = back a (p .fires) 0 ea i ∷ back b (p .fires) 1 eb i ∷ back c (p .fires) 2 ec i
             ∷ back d (p .fires) 3 ed i ∷ back e (p .fires) 4 ee i ∷ [];
+        ends = p .ends;
       })
       (_∙_ {b = runsPaced s h p}
-      (λ i. runsGiven h (p .run) (el i) (ea i) (eb i) (ec i) (ed i) (ee i))
+      (λ i. runsGiven h (p .run) (p .ends) (el i) (ea i) (eb i) (ec i) (ed i) (ee i))
       (λ i. runsPaced s h (ep i)))
 
 -- Where the master pulses, a move runs.
 fires-moving : (s : Settings) (r : Run) (p : Paced) → p ≡ paceOf s r → p .fires ≡ true → r .moving ≡ true
 fires-moving s r p e f = when (r .moving) (sym (ap (λ (x : Paced). x .fires) e) ∙ f)
   where
-    when : (b : Bool) → paceGiven r b (standsOf r (s .slope)) (advanceOf r (rampOf s r)) .fires ≡ true → b ≡ true
+    when : (b : Bool)
+        → paceGiven r (ticksOf r + 1) b (standsOf r (s .slope)) (advanceOf r (ticksOf r + 1) (rampOf s r)) .fires ≡ true
+        → b ≡ true
     when true q = refl
     when false q = q
 

@@ -1,6 +1,6 @@
 -- Inputs taken, stops begun, words at rest: done to what is held of a machine, they are the machine's own steps, held.
 -- Assumes nothing.
-use Prim.Native.Nat.{ℕ, _<_}
+use Prim.Native.Nat.{ℕ, _+_, _*_, _<_}
 use mathlib.Core.Bool.{Bool, true, false, cond, _&&_, _||_, or-true, or-false}
 use mathlib.Core.Path.{_≡_, refl, ap, _∙_}
 use native.Mathlib.Omega.{arith}
@@ -27,7 +27,7 @@ use Rattle.machine.specs.Stops.{
   limitOrWatch,
 }
 use Rattle.machine.specs.Outputs.{word}
-use Rattle.controller.specs.Held.{heldSettings, heldPlan, heldHot}
+use Rattle.controller.specs.Held.{round, ticksLeft, roundsOf, heldSettings, heldPlan, heldHot}
 use Rattle.controller.specs.Inner.Parts.{withWires}
 use Rattle.controller.specs.Inner.Words.{wordOf, restOf, WiresFit}
 use Rattle.controller.specs.Inner.Watch.{takesOf, limitOrWatchOf, causesGiven, stopsGiven, stopsMet, stopsOf}
@@ -35,6 +35,10 @@ use Rattle.controller.specs.Inner.Watch.{takesOf, limitOrWatchOf, causes
 -- What the five axes have, at one of them.
 pub each-at : {A : Type 0} (f : ℕ → A) (x : A) (k : ℕ) → k < 5 → getD (each f) k x ≡ f k
 each-at f x = five (λ (k : ℕ). getD (each f) k x ≡ f k) refl refl refl refl refl
+
+-- A tick count by its halves.
+pub halves : (n : ℕ) → roundsOf n * round + ticksLeft n ≡ n
+halves n = omega arith
 
 -- ---- Inputs, watch count, emergency, general outputs
 

@@ -93,17 +93,17 @@ callsOf (x ∷ l) = callsIn x (callsOf l)
 abbrev pub pulseIn : TickAnswer → ℕ → ℤ
 pulseIn r k = getD (r .pulses) k (pos 0)
 
--- The latest answer after some bytes: a byte answers no pulse, and without a byte it is the one before them.
-abbrev pub afterBytes : List ℕ → ℤ → ℤ
-afterBytes [] before = before
-afterBytes (b ∷ bs) before = pos 0
+-- The latest answer after some bytes: a byte answers none, and without a byte it is the one before them.
+abbrev pub afterBytes : {A : Type 0} → A → List ℕ → A → A
+afterBytes none [] before = before
+afterBytes none (b ∷ bs) before = none
 
 -- What the latest call answered for axis k. A stretch of which no byte is taken is no call.
 unfoldable pub latestIn : List Answered → ℕ → ℤ
 latestIn [] k = pos 0
 latestIn (byte b entry exit r ∷ l) k = pos 0
 latestIn (tick w r ∷ l) k = pulseIn r k
-latestIn (stretch bs r ∷ l) k = afterBytes (beforeEnd bs) (latestIn l k)
+latestIn (stretch bs r ∷ l) k = afterBytes (pos 0) (beforeEnd bs) (latestIn l k)
 
 -- The answered pulses of all ticks since the latest move's start took effect, for a stored start that very tick
 -- included. No line ends in a stretch, so that no start takes effect there.

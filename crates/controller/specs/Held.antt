@@ -1,6 +1,8 @@
 -- How the controller holds the values of the machine: the one definition that says so. Positions are held with 524,288
--- added; beside each travel stands the remainder of m × d / M; M, m and the parts of the output words are kept ready.
-use Prim.Native.Nat.{ℕ, _+_, _*_, _%_}
+-- added, the move's ticks in two halves; beside each travel stands the remainder of m × d / M; M, m and the parts of
+-- the output words are kept ready, and of the general outputs only their part of a word.
+use Prim.Native.Nat.{ℕ, _+_, _*_, _/_, _%_}
+use mathlib.Core.Bool.{Bool, true, false}
 use mathlib.Core.List.{List, []}
 use lib.IntN.{ℤ}
 use lib.ListN.{length}
@@ -13,6 +15,9 @@ use Rattle.reply.specs.Reply.{bias}
 use Rattle.machine.specs.State as M
 use Rattle.machine.specs.State.{Machine, none, start}
 use Rattle.machine.specs.Shares.{whole, gone}
+use Rattle.journal.specs.declared.Entry.{Entry}
+use Rattle.journal.specs.Journal.{zeroEntry}
+use Rattle.machine.specs.Entries.{EntryAnswer, noEntry, entry}
 use Rattle.machine.specs.Replies.{travelOf, positionOf}
 use Rattle.machine.specs.Steps as steps
 use Rattle.machine.specs.Steps.{powerOn, powerNumber}
@@ -47,6 +52,16 @@ heldSettings s = record {
 abbrev pub heldPlan : M.Plan → Plan
 heldPlan p = record { distances = each (p .distance); minus = each (p .minus) }
 
+-- A tick count in two halves: whole rounds of 2 to the 32 ticks, and the ticks of the last.
+abbrev pub round : ℕ
+round = 4294967296
+
+abbrev pub ticksLeft : ℕ → ℕ
+ticksLeft n = n % round
+
+abbrev pub roundsOf : ℕ → ℕ
+roundsOf n = n / round
+
 -- M and m stand beside the speed and the phase.
 abbrev pub heldRun : M.Move → Run
 heldRun v = record {
@@ -57,6 +72,8 @@ heldRun v = record {
   master = v .master;
   moving = v .moving;
   stopping = v .stopping;
+  ticks = ticksLeft (v .ticks);
+  rounds = roundsOf (v .ticks);
 }
 
 -- The remainder is what m × d leaves when divided by M.
@@ -98,7 +115,6 @@ heldHot m = record {
   wires = heldWires (m .switch) (m .settings .polarity) (m .outputs) (m .move .plan);
   pause = heldPause (m .pause);
   inputs = m .inputs;
-  outputs = m .outputs;
   watch = m .watch;
   flags = heldFlags (m .flags);
 }
@@ -138,7 +154,16 @@ abbrev pub heldGathered : Machine → List ℕ → Gathered
 heldGathered m bs =
     record { controller = held (from m (bytes (beforeEnd bs) [])); count = length (beforeEnd bs) }
 
--- A tick: the next controller, the pulses as a list, the two words, the number.
+-- Whether a tick ends a move, and the entry of that move; zeros without one.
+abbrev pub isEnd : EntryAnswer → Bool
+isEnd noEntry = false
+isEnd (entry e) = true
+
+abbrev pub heldEntry : EntryAnswer → Entry
+heldEntry noEntry = zeroEntry
+heldEntry (entry e) = e
+
+-- A tick: the next controller, the pulses as a list, the two words, the number, the entry.
 abbrev pub heldTick : steps.TickAnswer → TickAnswer
 heldTick a = record {
   controller = held (a .machine);
@@ -146,4 +171,6 @@ heldTick a = record {
   first = a .first;
   second = a .second;
   number = a .number;
+  ended = isEnd (a .entry);
+  entry = heldEntry (a .entry);
 }

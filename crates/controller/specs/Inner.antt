@@ -8,6 +8,7 @@ pub mod Motion
 pub mod Watch
 pub mod Start
 pub mod Dwell
+pub mod Entry
 pub mod Settings
 pub mod Numbers
 pub mod Orders

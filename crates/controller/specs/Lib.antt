@@ -1,4 +1,5 @@
 pub mod Held
 pub mod Reach
 pub mod Answers
+pub mod Journal
 pub mod Inner

@@ -4,23 +4,28 @@
 ghost use mathlib.Core.Path.{_≡_};
 ghost use Rattle.block.specs.Block.{frontOf};
 ghost use Rattle.machine.specs.Demand.{Demand3};
+ghost use Rattle.machine.specs.Journal.{Journal};
 ghost use Rattle.machine.specs.Marked.{Marked};
+ghost use Rattle.witness.specs.Entries.{EntryWitness};
 ghost use Rattle.witness.specs.Witness.{Witness};
 ghost use Rattle.controller.specs.Held.{heldPower};
 ghost use Rattle.controller.specs.Reach.{Reachable};
 ghost use Rattle.controller.specs.Answers as answered;
 ghost use Rattle.controller.specs.Answers.{ReplyIn, Promised, Demand3Answers};
-ghost use Rattle.controller.specs.Inner.Power.{withLineOf};
+ghost use Rattle.controller.specs.Journal.{JournalAnswers};
+ghost use Rattle.controller.specs.Inner.Power.{withLineOf, refusedOf};
 pub use crate::state::ByteAnswer;
 pub use crate::state::Controller;
 pub use crate::state::Gathered;
 pub use crate::state::PowerOn;
 pub use crate::state::TickAnswer;
 use block::REPLY_ROOM;
+use journal::NO_ENTRY;
 use receiver::Heard;
 use receiver::Receiver;
 
 mod dwell;
+mod entry;
 mod line_end;
 mod motion;
 mod numbers;
@@ -40,13 +45,17 @@ const LAST_WORD: u32 = 16777215;
 
 // Power-on. The theorem about every list of calls, the marked table and computed lists stand here as promises, so that
 // the gate keeps them: they speak of the machine whose held values every entry answers. The same theorem over the
-// answers of these entries themselves stands beside it (`Demand3Answers`).
+// answers of these entries themselves stands beside it (`Demand3Answers`). So do the two about the journal's entries
+// (`Journal`, `JournalAnswers`), with computed ones (`EntryWitness`).
 pub fn power_on(switch: u8) -> PowerOn
     ensures { λ r. ⌜ r ≡ heldPower switch ⌝ }
     ensures { λ _. ⌜ Demand3 ⌝ }
     ensures { λ _. ⌜ Marked ⌝ }
     ensures { λ _. ⌜ Witness ⌝ }
     ensures { λ _. ⌜ Demand3Answers ⌝ }
+    ensures { λ _. ⌜ Journal ⌝ }
+    ensures { λ _. ⌜ JournalAnswers ⌝ }
+    ensures { λ _. ⌜ EntryWitness ⌝ }
     ensures { λ r. ⌜ Reachable (r .controller) ⌝ }
 {
     if power::is_bad(switch) {
@@ -80,6 +89,21 @@ fn with_line(c: Controller, line: Receiver) -> Controller
     let mut cold = c.cold;
     cold.line = line;
     Controller { hot, cold }
+}
+
+// A tick that is turned away: nothing altered.
+fn refused(c: Controller) -> TickAnswer
+    ensures { λ r. ⌜ r ≡ refusedOf c ⌝ }
+{
+    TickAnswer {
+        controller: c,
+        first: 0,
+        second: 0,
+        pulses: [0; 5],
+        number: 3,
+        ended: false,
+        entry: NO_ENTRY,
+    }
 }
 
 impl Controller {
@@ -137,13 +161,7 @@ impl Controller {
         ensures { λ r. ⌜ Promised self (answered.tick word r) ⌝ }
     {
         if LAST_WORD < word {
-            return TickAnswer {
-                controller: self,
-                first: 0,
-                second: 0,
-                pulses: [0; 5],
-                number: 3,
-            };
+            return refused(self);
         }
         let cold = self.cold;
         let settings = cold.settings;
@@ -158,6 +176,10 @@ impl Controller {
         let wires = hot.wires;
         let second = words::rest(wires);
         let pulses = ran.pulses;
+        let plan = hot.plan;
+        let counters = hot.counters;
+        let run = hot.run;
+        let entry = entry::told(ran.ends, plan, counters, run);
         let controller = Controller { hot, cold };
         TickAnswer {
             controller,
@@ -165,6 +187,8 @@ impl Controller {
             second,
             pulses,
             number: waited.number,
+            ended: ran.ends,
+            entry,
         }
     }
 }

@@ -145,11 +145,12 @@ fn stepped(hot: Hot, run: Run, left: u32, a: Axis, b: Axis, c: Axis, d: Axis, e:
     next
 }
 
-// What the ramp and the pulses of a tick leave, the pulses, and the first output word.
+// What the ramp and the pulses of a tick leave, the pulses, the first output word, and whether the move ends.
 pub struct Ran {
     pub hot: Hot,
     pub first: u32,
     pub pulses: [i8; 5],
+    pub ends: bool,
 }
 
 // Ramp and pulses. One way through for every tick, so that the state is made once, at the end.
@@ -178,5 +179,6 @@ pub(crate) fn runs(settings: Settings, hot: Hot) -> Ran
         hot: next,
         first,
         pulses,
+        ends: paced.ends,
     }
 }

@@ -52,6 +52,8 @@ fn fresh_run() -> Run
         master: 0,
         moving: false,
         stopping: false,
+        ticks: 0,
+        rounds: 0,
     }
 }
 
@@ -86,7 +88,6 @@ fn fresh_hot(switch: u8, plan: Plan) -> Hot
         wires,
         pause,
         inputs: 0,
-        outputs: 0,
         watch: 0,
         flags,
     }

@@ -4,6 +4,7 @@ ghost use Prim.Native.Nat.{_≤_, _<_};
 ghost use Rattle.machine.specs.Ramp.{braked, towards};
 ghost use Rattle.controller.specs.Inner.Ramp.{
   rampOf,
+  ticksOf,
   standsOf,
   atRestOf,
   underWayOf,
@@ -19,6 +20,9 @@ use crate::state::Settings;
 const FULL: u32 = 50000000;
 
 const FIFTIETHS: u32 = 50;
+
+// The ticks of a round.
+const ROUND: u64 = 4294967296;
 
 // u falls by a but not below a, and stays where it is at or below a.
 fn brake(u: u32, a: u32) -> u32
@@ -79,6 +83,13 @@ fn stands(run: Run, slope: u32) -> bool
     false
 }
 
+// The ticks in which the move's ramp ran.
+pub(crate) fn count(run: Run) -> u64
+    ensures { λ r. ⌜ r ≡ ticksOf run ⌝ }
+{
+    run.rounds as u64 * ROUND + run.ticks as u64
+}
+
 // The run after a tick of the ramp, whether the master pulses in it, and whether the move ends in it.
 pub struct Paced {
     pub run: Run,
@@ -87,8 +98,8 @@ pub struct Paced {
 }
 
 // The move has ended: speed and phase 0.
-fn at_rest(was: Run, gone: u32) -> Run
-    ensures { λ r. ⌜ r ≡ atRestOf was gone ⌝ }
+fn at_rest(was: Run, ticks: u64, gone: u32) -> Run
+    ensures { λ r. ⌜ r ≡ atRestOf was ticks gone ⌝ }
 {
     Run {
         length: was.length,
@@ -98,11 +109,13 @@ fn at_rest(was: Run, gone: u32) -> Run
         master: was.master,
         moving: false,
         stopping: false,
+        ticks: (ticks % ROUND) as u32,
+        rounds: (ticks / ROUND) as u32,
     }
 }
 
-fn under_way(was: Run, gone: u32, speed: u32, phase: u32) -> Run
-    ensures { λ r. ⌜ r ≡ underWayOf was gone speed phase ⌝ }
+fn under_way(was: Run, ticks: u64, gone: u32, speed: u32, phase: u32) -> Run
+    ensures { λ r. ⌜ r ≡ underWayOf was ticks gone speed phase ⌝ }
 {
     Run {
         length: was.length,
@@ -112,17 +125,19 @@ fn under_way(was: Run, gone: u32, speed: u32, phase: u32) -> Run
         master: was.master,
         moving: was.moving,
         stopping: was.stopping,
+        ticks: (ticks % ROUND) as u32,
+        rounds: (ticks / ROUND) as u32,
     }
 }
 
 // The phase grows by the speed, and the master pulses where it is full.
-fn advance(was: Run, speed: u32) -> Paced
+fn advance(was: Run, ticks: u64, speed: u32) -> Paced
     requires { ⌜ (speed ≤ 50000000) × (was .phase < 50000000) × (was .gone < 524287) ⌝ }
-    ensures { λ r. ⌜ r ≡ advanceOf was speed ⌝ }
+    ensures { λ r. ⌜ r ≡ advanceOf was ticks speed ⌝ }
 {
     let grown = was.phase + speed;
     if grown < FULL {
-        let run = under_way(was, was.gone, speed, grown);
+        let run = under_way(was, ticks, was.gone, speed, grown);
         return Paced {
             run,
             fires: false,
@@ -131,14 +146,14 @@ fn advance(was: Run, speed: u32) -> Paced
     }
     let gone = was.gone + 1;
     if gone == was.length {
-        let run = at_rest(was, gone);
+        let run = at_rest(was, ticks, gone);
         return Paced {
             run,
             fires: true,
             ends: true,
         };
     }
-    let run = under_way(was, gone, speed, grown - FULL);
+    let run = under_way(was, ticks, gone, speed, grown - FULL);
     Paced {
         run,
         fires: true,
@@ -158,8 +173,9 @@ pub(crate) fn pace(settings: Settings, was: Run) -> Paced
             ends: false,
         };
     }
+    let ticks = count(was) + 1;
     if stands(was, settings.slope) {
-        let run = at_rest(was, was.gone);
+        let run = at_rest(was, ticks, was.gone);
         return Paced {
             run,
             fires: false,
@@ -167,5 +183,5 @@ pub(crate) fn pace(settings: Settings, was: Run) -> Paced
         };
     }
     let speed = ramp(settings, was);
-    advance(was, speed)
+    advance(was, ticks, speed)
 }

@@ -89,6 +89,5 @@ pub(crate) fn set_outputs(c: Controller, v: u32) -> Controller
     let general = outputs::general(c.cold.switch, v);
     let mut next = c;
     next.hot.wires.general = general;
-    next.hot.outputs = v;
     next
 }

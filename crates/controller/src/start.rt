@@ -108,6 +108,8 @@ pub(crate) fn begun(next: Plan, polarity: u32, switch: u8, hot: Hot, master: u8)
         master: master as u16,
         moving: true,
         stopping: false,
+        ticks: 0,
+        rounds: 0,
     };
     let was = hot.counters;
     let positions = was.positions;

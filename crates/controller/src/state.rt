@@ -2,6 +2,7 @@
 // have no hole behind their last field: the compiler copies a hole by itself in every tick.
 ghost use mathlib.Core.Path.{_≡_};
 ghost use mathlib.Core.Bool.{_||_};
+use journal::Entry;
 use outputs::Cells;
 use receiver::Receiver;
 use reply::Position;
@@ -26,7 +27,9 @@ pub struct Plan {
     pub minus: [bool; 5],
 }
 
-// The latest move: the master's distance and travel, the speed in fiftieths of a unit, the phase.
+// The latest move: the master's distance and travel, the speed in fiftieths of a unit, the phase, and the ticks in
+// which its ramp ran: `rounds` times 2 to the 32, and `ticks`. In two halves a controller has 256 bytes; one of more
+// costs a call from firmware 10 ns.
 #[repr(C)]
 pub struct Run {
     pub length: u32,
@@ -36,6 +39,8 @@ pub struct Run {
     pub master: u16,
     pub moving: bool,
     pub stopping: bool,
+    pub ticks: u32,
+    pub rounds: u32,
 }
 
 // What each axis counts. A remainder is what the master's travel times the distance leaves when divided by the length.
@@ -77,7 +82,6 @@ pub struct Hot {
     pub wires: Wires,
     pub pause: Pause,
     pub inputs: u32,
-    pub outputs: u32,
     pub watch: u32,
     pub flags: Flags,
 }
@@ -120,8 +124,9 @@ pub struct Gathered {
     pub count: usize,
 }
 
-// What a tick answers: the next controller, the five pulses (-1, 0, 1), the output words of its two halves, and the
-// number of a waiting start that failed, or 3, or 0.
+// What a tick answers: the next controller, the five pulses (-1, 0, 1), the output words of its two halves, the number
+// of a waiting start that failed, or 3, or 0, and whether it ends a move, with the entry of that move for the journal;
+// an entry without an end is all zeros.
 #[repr(C)]
 pub struct TickAnswer {
     pub controller: Controller,
@@ -129,6 +134,8 @@ pub struct TickAnswer {
     pub second: u32,
     pub pulses: [i8; 5],
     pub number: u8,
+    pub ended: bool,
+    pub entry: Entry,
 }
 
 pub(crate) fn either(a: bool, b: bool) -> bool

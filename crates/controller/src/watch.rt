@@ -50,7 +50,6 @@ pub(crate) fn takes(settings: Settings, was: Hot, word: u32) -> Hot
     next.watch = watch;
     next.flags.emergency = emergency;
     if is_full(watch, settings.watch / 2) {
-        next.outputs = 0;
         next.wires.general = 0;
     }
     next

@@ -1,20 +1,27 @@
-// The controller for firmware in C or Rust: power-on, a received byte, a tick and the readings, by value. Each function
-// has the contract of the entry of `controller` that it passes on; include/temixohuel.h declares them. The premise is
-// that the controller is reachable, and power-on, byte and tick promise this of what they hand back. Assumes nothing.
+// The controller for firmware in C or Rust: power-on, a received byte, a tick and the readings, by value; and the
+// journal's writer and reader. Each function has the contract of the entry of `controller` or `journal` that it passes
+// on, but for what speaks of the machine alone and for computed examples; include/temixohuel.h declares them. The
+// premise is that the controller is reachable, and power-on, byte and tick promise this of what they hand back; the
+// journal's two have none. Assumes nothing.
 ghost use mathlib.Core.List.{List, map};
 ghost use mathlib.Core.Path.{_≡_};
 ghost use Rattle.laws.specs.Axes.{each};
 ghost use Rattle.reply.specs.declared.readings.Position.{Position};
 ghost use Rattle.reply.specs.Reply.{positionOf};
+ghost use Rattle.journal.specs.Journal.{appended, appendBuffer, readAt, RoundTrip, OneSpelling};
 ghost use Rattle.machine.specs.Stops.{status};
 ghost use Rattle.controller.specs.Held.{heldPower};
 ghost use Rattle.controller.specs.Reach.{Reachable, Made};
 ghost use Rattle.controller.specs.Answers as answered;
 ghost use Rattle.controller.specs.Answers.{Promised, TravelsOf, PositionsOf, Demand3Answers};
+ghost use Rattle.controller.specs.Journal.{JournalAnswers};
 use controller::ByteAnswer;
 use controller::Controller;
 use controller::PowerOn;
 use controller::TickAnswer;
+use journal::Appended;
+use journal::Entry;
+use journal::EntryAt;
 use reply::Travel;
 
 // The five travels: an array does not cross by itself.
@@ -34,6 +41,7 @@ pub struct Positions {
 pub extern "C" fn temixohuel_power_on(switch: u8) -> PowerOn
     ensures { λ r. ⌜ r ≡ heldPower switch ⌝ }
     ensures { λ _. ⌜ Demand3Answers ⌝ }
+    ensures { λ _. ⌜ JournalAnswers ⌝ }
     ensures { λ r. ⌜ Reachable (r .controller) ⌝ }
 {
     controller::power_on(switch)
@@ -48,7 +56,7 @@ pub extern "C" fn temixohuel_byte(c: Controller, buf: &mut [u8], b: u8) -> ByteA
     c.byte(buf, b)
 }
 
-// A tick, with its input word.
+// A tick, with its input word; the one that ends a move answers its entry.
 #[no_mangle]
 pub extern "C" fn temixohuel_tick(c: Controller, word: u32) -> TickAnswer
     requires { ⌜ Reachable c ⌝ }
@@ -110,4 +118,23 @@ pub extern "C" fn temixohuel_slope(c: Controller) -> u32
     ensures { λ r. ⌜ Made c (λ m. r ≡ m .settings .slope) ⌝ }
 {
     c.slope()
+}
+
+// The entry of an ended move at the place `at` of a journal, and the place after it.
+#[no_mangle]
+pub extern "C" fn temixohuel_append(buf: &mut [u8], at: usize, entry: Entry) -> Appended
+    ensures { λ r. ⌜ r ≡ appended (now (buf .entry)) at entry ⌝ }
+    ensures { λ _. ⌜ now (buf .exit) ≡ appendBuffer (now (buf .entry)) at entry ⌝ }
+    ensures { λ _. ⌜ RoundTrip ⌝ }
+{
+    journal::append(buf, at, entry)
+}
+
+// The entry at the place `at` of a journal, if there is one, and the place after it.
+#[no_mangle]
+pub extern "C" fn temixohuel_read(bytes: &[u8], at: usize) -> EntryAt
+    ensures { λ r. ⌜ r ≡ readAt (now (bytes .entry)) at ⌝ }
+    ensures { λ _. ⌜ OneSpelling ⌝ }
+{
+    journal::read(bytes, at)
 }

@@ -4,3 +4,4 @@ pub mod BitLaws
 pub mod Some
 pub mod Tests
 pub mod Directed
+pub mod Signs

@@ -2,7 +2,7 @@
 use Prim.Native.Nat.{ℕ}
 use mathlib.Core.Bool.{Bool, true, false, _||_}
 use mathlib.Core.List.{List, [], _∷_}
-use lib.IntN.{ℤ, pos, negℤ}
+use lib.IntN.{ℤ, pos, negsuc, negℤ}
 
 -- Whether something holds of one of the five axes.
 abbrev pub some : (ℕ → Bool) → Bool
@@ -16,3 +16,8 @@ each f = f 0 ∷ f 1 ∷ f 2 ∷ f 3 ∷ f 4 ∷ []
 abbrev pub directed : Bool → ℕ → ℤ
 directed true n = negℤ (pos n)
 directed false n = pos n
+
+-- Whether a number is below 0.
+abbrev pub isMinus : ℤ → Bool
+isMinus (pos n) = false
+isMinus (negsuc n) = true

@@ -5,6 +5,7 @@ use mathlib.Core.Path.{_≡_, refl, sym, ap, subst, _∙_}
 use lib.Dec.{eqb}
 use lib.IntN.{ℤ, _+ℤ_}
 use Rattle.laws.specs.Axes.{directed}
+use Rattle.laws.proofs.Tests.{true-false}
 use Rattle.machine.specs.State.{Plan, Move, Machine}
 use Rattle.machine.specs.Shares.{whole}
 use Rattle.machine.specs.Ramp.{runs}
@@ -26,7 +27,7 @@ use Rattle.machine.proofs.LookLaws.{
   start-minus,
   start-master,
   start-travel,
-  start-moving,
+  looked-moving,
   start-stopping,
 }
 
@@ -45,6 +46,7 @@ called-run m l s a S P z lk st rn = record {
       ∙ (ap (λ (v : Move). v .plan .distance k) (lk .move) ∙ start-plan S (m .next) (m .move) k);
   minus = λ k. minus k;
   master = rn .master ∙ (st .master ∙ (ap (λ (v : Move). v .master) (lk .move) ∙ start-master S (m .next) (m .move)));
+  ticks = λ q. true-false true refl q;
   count = λ k h. rn .count k h ∙ ap (λ (n : ℕ). n + isPulse (z k)) (travel k);
   sum = λ k. rn .sum k ∙ ap (λ (p : ℕ → ℤ). p k +ℤ z k) (st .position ∙ lk .position);
   single = rn .single;
@@ -70,7 +72,7 @@ called-run m l s a S P z lk st rn = record {
         ∙ (ap (λ (v : Move). v .travel k) (lk .move) ∙ start-travel S (m .next) (m .move) k)
 
     moving : s .move .moving ≡ begins S || m .move .moving
-    moving = st .moving ∙ (ap (λ (v : Move). v .moving) (lk .move) ∙ start-moving S (m .next) (m .move))
+    moving = looked-moving m l s S P lk st
 
     stop : s .move .stopping ≡ P || (not (begins S) && m .move .stopping)
     stop = st .stopping ∙ ap (λ (b : Bool). P || b)

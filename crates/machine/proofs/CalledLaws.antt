@@ -23,6 +23,7 @@ pub record Called (m : Machine) (L : Role) (S : Tried) (P t : Bool) (z : ℕ →
   pub minus : (k : ℕ) → a .move .plan .minus k ≡ atStart S (λ j. m .next .minus k) (m .move .plan .minus k)
   pub master : a .move .master ≡ atStart S (λ j. j) (m .move .master)
   pub count : (k : ℕ) → k < 5 → a .move .travel k ≡ cond (begins S) 0 (m .move .travel k) + isPulse (z k)
+  pub ticks : t ≡ false → a .move .ticks ≡ cond (begins S) 0 (m .move .ticks)
   pub sum : (k : ℕ) → a .position k ≡ cond (resetBy L) (pos 0) (m .position k +ℤ z k)
   pub single : (k : ℕ) → k < 5 → natAbs (z k) ≤ 1
   pub sign : (k : ℕ) → k < 5 → 0 < natAbs (z k) → z k ≡ directed (a .move .plan .minus k) 1
@@ -58,6 +59,7 @@ called-line m a L t g v distances directions positions = record {
   minus = λ k. ap (λ (x : Move). x .plan .minus k) v;
   master = ap (λ (x : Move). x .master) v;
   count = λ k h. ap (λ (x : Move). x .travel k) v ∙ no-pulse (m .move .travel k);
+  ticks = λ q. ap (λ (x : Move). x .ticks) v;
   sum = positions;
   single = λ k h. omega arith;
   sign = λ k h q. absurd (omega arith);

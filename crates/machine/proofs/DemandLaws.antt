@@ -33,7 +33,7 @@ use Rattle.machine.proofs.Told.{Told, called-on}
 use Rattle.machine.proofs.ListLaws.{whole-end, told}
 
 module _ (s : ℕ) (h : List Call) (t : Told s h) where
-  same-whole : shares.whole (state s h .move) ≡ whole s h
+  pub same-whole : shares.whole (state s h .move) ≡ whole s h
   same-whole = ap (λ (j : ℕ). state s h .move .plan .distance j) (t .masters) ∙ t .distances (master s h)
 
   same-gone : shares.gone (state s h .move) ≡ gone s h

@@ -19,12 +19,19 @@ use Rattle.machine.proofs.FitLineLaws.{fits-byte}
 
 pub fits-power : (s : ℕ) → Fits (powerOn s)
 fits-power s =
-    fits-of _ (record { speed = omega arith; slope = omega arith; dwell = omega arith }) (λ k h. omega arith) (record {
+    fits-of _ (record {
+      moves = omega arith;
+      speed = omega arith;
+      rises = omega arith;
+      slope = omega arith;
+      dwell = omega arith;
+    }) (λ k h. omega arith) (record {
       good = record { axis = λ k h. share-none 0 0 (omega arith); under = λ q. true-false false q refl };
       plan = λ k h. omega arith;
       master = omega arith;
       speed = omega arith;
       phase = omega arith;
+      ticks = λ q. true-false false q refl;
       within = λ k h. omega arith;
     }) (record { inside = λ k h. refl; room = λ q. true-false false q refl })
     (record { left = omega arith; waiting = omega arith })

@@ -44,8 +44,10 @@ fits-setting : (m : Machine) (b code v : ℕ) → Fits m → settingFits code v 
     → Fits (withWatch (does (heardBy m b) (C.Set code v)) 0)
 fits-setting m b code v f h =
     fits-set m _ f (record {
+      moves = by-eq (λ (x : ℕ). 0 < x) code 8 _ _ (λ q. within v 1 topSpeed (rw q at h) .0) (λ _. f .settings .moves);
       speed = by-eq (λ (x : ℕ). x ≤ topSpeed) code 8 _ _ (λ q. within v 1 topSpeed (rw q at h) .1)
           (λ _. f .settings .speed);
+      rises = by-eq (λ (x : ℕ). 0 < x) code 9 _ _ (λ q. within v 1 topSlope (rw q at h) .0) (λ _. f .settings .rises);
       slope = by-eq (λ (x : ℕ). x ≤ topSlope) code 9 _ _ (λ q. within v 1 topSlope (rw q at h) .1)
           (λ _. f .settings .slope);
       dwell = by-eq (λ (x : ℕ). x ≤ 16383) code 10 _ _ (λ q. leb-true v 16383 (rw q at h)) (λ _. f .settings .dwell);

@@ -27,6 +27,7 @@ fits-begun m k f h r =
       master = h;
       speed = omega arith;
       phase = omega arith;
+      ticks = λ q. omega arith;
       within = λ j l. omega arith;
     }) (record { inside = f .places .inside; room = λ q j l. fresh j l })
     (record { left = omega arith; waiting = omega arith })
@@ -86,6 +87,7 @@ fits-stopping m a f s n v p q =
           master = f .move .master;
           speed = f .move .speed;
           phase = f .move .phase;
+          ticks = f .move .ticks;
           within = f .move .within;
         }) (record { inside = f .places .inside; room = f .places .room }) (f .pause)
 

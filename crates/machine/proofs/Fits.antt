@@ -1,19 +1,22 @@
--- What every machine that calls make keeps: settings, distances, speed and phase in range, positions in range with
--- room for what is left of a running move. Assumes nothing.
-use Prim.Native.Nat.{ℕ, _-_, _≤_, _<_}
+-- What every machine that calls make keeps: settings, distances, speed and phase in range, a running move's ticks no
+-- more than it has gone, positions in range with room for what is left of it. Assumes nothing.
+use Prim.Native.Nat.{ℕ, _+_, _-_, _*_, _≤_, _<_}
 use mathlib.Core.Bool.{true, false}
 use mathlib.Core.Path.{_≡_, sym, subst}
 use lib.IntN.{ℤ}
 use Rattle.line.specs.Ranges.{topSpeed, topSlope}
 use Rattle.reply.specs.Reply.{bias}
 use Rattle.machine.specs.State.{Settings, Plan, Move, Machine, Waiting, none, start, Pause}
+use Rattle.machine.specs.Shares.{gone}
 use Rattle.machine.specs.Ramp.{full}
 use Rattle.machine.specs.Starts.{outside}
 use Rattle.machine.proofs.Runs.{Good}
 use Rattle.machine.proofs.PositionLaws.{Room}
 
 pub record SettingsFit (s : Settings) : Type 0 where
+  pub moves : 0 < s .speed
   pub speed : s .speed ≤ topSpeed
+  pub rises : 0 < s .slope
   pub slope : s .slope ≤ topSlope
   pub dwell : s .dwell ≤ 16383
 
@@ -34,6 +37,8 @@ pub record MoveFits (v : Move) : Type 0 where
   pub master : v .master < 5
   pub speed : v .speed ≤ full
   pub phase : v .phase < full
+  -- each tick that does not end a move raises 50,000,000 × m + phase by its speed, which is 1 at least
+  pub ticks : v .moving ≡ true → v .ticks ≤ full * gone v + v .phase
   pub within : (k : ℕ) → k < 5 → v .travel k ≤ v .plan .distance k
 
 -- Each position is in range, and a running move has room for what is left of it.

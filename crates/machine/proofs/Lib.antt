@@ -11,6 +11,7 @@ pub mod EffectLaws
 pub mod LineLaws
 pub mod LookLaws
 pub mod CallLaws
+pub mod EntryLaws
 pub mod PauseLineLaws
 pub mod PauseStageLaws
 pub mod PauseLaws
@@ -22,5 +23,8 @@ pub mod FitLaws
 pub mod Told
 pub mod ListLaws
 pub mod DemandLaws
+pub mod MovedLaws
+pub mod JournalLaws
+pub mod TakenLaws
 pub mod MarkedLaws
 pub mod FlaggedLaws

@@ -75,7 +75,7 @@ same-stop : (P B X Y : Bool) → (B ≡ false → X ≡ Y) → P || (not B && X)
 same-stop P true X Y h = refl
 same-stop P false X Y h = ap (λ (b : Bool). P || b) (h refl)
 
-old-start : {A : Type 0} (S : Tried) (f : ℕ → A) (x : A) → begins S ≡ false → atStart S f x ≡ x
+pub old-start : {A : Type 0} (S : Tried) (f : ℕ → A) (x : A) → begins S ≡ false → atStart S f x ≡ x
 old-start untried f x e = refl
 old-start (failed n) f x e = refl
 old-start (began j) f x e = true-false true refl e

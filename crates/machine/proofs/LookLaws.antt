@@ -1,7 +1,7 @@
 -- A tick before its pulses: a waiting start that begins, a stop, and what a start sets of a move. Assumes nothing.
 use Prim.Native.Nat.{ℕ, _<_}
 use mathlib.Core.Bool.{Bool, true, false, cond, not, _&&_, _||_}
-use mathlib.Core.Path.{_≡_, refl, sym, ap, subst}
+use mathlib.Core.Path.{_≡_, refl, sym, ap, subst, _∙_}
 use borrow.Author.Tests.{eqb-true}
 use lib.Dec.{eqb}
 use Rattle.laws.proofs.Tests.{true-false}
@@ -96,6 +96,7 @@ pub record Stopped (l : Machine) (P : Bool) (s : Machine) : Type 0 where
   pub plan : s .move .plan ≡ l .move .plan
   pub master : s .move .master ≡ l .move .master
   pub travel : s .move .travel ≡ l .move .travel
+  pub ticks : s .move .ticks ≡ l .move .ticks
   pub moving : s .move .moving ≡ l .move .moving
   pub stopping : s .move .stopping ≡ P || l .move .stopping
 
@@ -111,6 +112,7 @@ stopped-is l g = when (cause l)
       plan = refl;
       master = refl;
       travel = refl;
+      ticks = refl;
       moving = refl;
       stopping = refl;
     }
@@ -121,6 +123,7 @@ stopped-is l g = when (cause l)
       plan = refl;
       master = refl;
       travel = refl;
+      ticks = refl;
       moving = refl;
       stopping = refl;
     }
@@ -149,6 +152,12 @@ start-travel untried p v k = refl
 start-travel (failed n) p v k = refl
 start-travel (began j) p v k = refl
 
+pub start-ticks : (S : Tried) (p : Plan) (v : Move)
+    → atStart S (λ j. newMove p j) v .ticks ≡ cond (begins S) 0 (v .ticks)
+start-ticks untried p v = refl
+start-ticks (failed n) p v = refl
+start-ticks (began j) p v = refl
+
 pub start-moving : (S : Tried) (p : Plan) (v : Move) → atStart S (λ j. newMove p j) v .moving ≡ begins S || v .moving
 start-moving untried p v = refl
 start-moving (failed n) p v = refl
@@ -159,3 +168,9 @@ pub start-stopping : (S : Tried) (p : Plan) (v : Move)
 start-stopping untried p v = refl
 start-stopping (failed n) p v = refl
 start-stopping (began j) p v = refl
+
+-- Whether a move runs or begins in the tick.
+pub looked-moving : (m l s : Machine) (S : Tried) (P : Bool) → Looked m S l → Stopped l P s
+    → s .move .moving ≡ begins S || m .move .moving
+looked-moving m l s S P lk st =
+    st .moving ∙ (ap (λ (v : Move). v .moving) (lk .move) ∙ start-moving S (m .next) (m .move))

@@ -82,7 +82,8 @@ module _ (m : Machine) (g : Good (m .move)) (e : m .move .moving ≡ true) where
       → (moving ≡ true → gone (m .move) + 1 < whole (m .move)) → (moving ≡ true → stopping ≡ m .move .stopping)
       → (moving ≡ false → gone (m .move) + 1 ≡ whole (m .move))
       → Runs m (pulse (m .move) (gone (m .move) + 1)) (withPause (withMove (stepped m u phase (gone (m .move) + 1))
-      (moveOf (m .move .plan) (m .move .master) (share (m .move) (gone (m .move) + 1)) u phase moving stopping)) p)
+      (moveOf (m .move .plan) (m .move .master) (share (m .move) (gone (m .move) + 1)) u phase (m .move .ticks) moving
+      stopping)) p)
   runs-shared u phase moving stopping p below same all = record {
     good = record {
       axis = step-axis;

@@ -10,8 +10,8 @@ use lib.IntN.{pos, +ℤ-idr}
 use Rattle.laws.proofs.Pick.{by-bool}
 use Rattle.laws.proofs.Tests.{true-false, both}
 use Rattle.machine.specs.State.{Pause, Machine, moveOf, withMove, withPause}
-use Rattle.machine.specs.Ramp.{Ran, ended, atSpeed, advanced, ramped, runs, full}
-use Rattle.machine.proofs.Runs.{Good, Runs, no-pulse}
+use Rattle.machine.specs.Ramp.{Ran, ended, atSpeed, advanced, ramped, ramps, tallied, runs, full}
+use Rattle.machine.proofs.Runs.{Good, good-tallied, Runs, untallied, no-pulse}
 use Rattle.machine.proofs.PulseLaws.{runs-pulse}
 
 module _ (m : Machine) (g : Good (m .move)) where
@@ -21,7 +21,7 @@ module _ (m : Machine) (g : Good (m .move)) where
       → (moving ≡ true → stopping ≡ m .move .stopping)
       → (m .move .moving ≡ true → m .move .stopping ≡ false → moving ≡ true)
       → Runs m (λ k. pos 0) (withPause (withMove m
-      (moveOf (m .move .plan) (m .move .master) (m .move .travel) u phase moving stopping)) p)
+      (moveOf (m .move .plan) (m .move .master) (m .move .travel) u phase (m .move .ticks) moving stopping)) p)
   runs-quiet u phase moving stopping p before still same on = record {
     good = record { axis = g .axis; under = λ q. g .under (before q) };
     plan = refl;
@@ -52,12 +52,15 @@ module _ (m : Machine) (g : Good (m .move)) where
       by-bool (λ (r : Ran). Runs m (r .pulse) (r .machine)) (ltb grown full) _ _
       (λ q. runs-turn u grown) (λ q. runs-pulse m g e u (grown - full))
 
-  pub runs-is : Runs m (runs m .pulse) (runs m .machine)
-  runs-is =
-      by-bool (λ (r : Ran). Runs m (r .pulse) (r .machine)) (not (m .move .moving)) _ _
-      (λ q. runs-turn (m .move .speed) (m .move .phase))
-      (λ q. by-bool (λ (r : Ran). Runs m (r .pulse) (r .machine))
+  pub ramps-is : m .move .moving ≡ true → Runs m (ramps m .pulse) (ramps m .machine)
+  ramps-is e =
+      by-bool (λ (r : Ran). Runs m (r .pulse) (r .machine))
       (m .move .stopping && leb (m .move .speed) (m .settings .slope)) _ _
       (λ s. runs-halt (both (m .move .stopping) _ s .0))
-      (λ s. runs-on (not-false (m .move .moving) q) (ramped (m .settings) (m .move))
-      (m .move .phase + ramped (m .settings) (m .move))))
+      (λ s. runs-on e (ramped (m .settings) (m .move)) (m .move .phase + ramped (m .settings) (m .move)))
+
+pub runs-is : (m : Machine) → Good (m .move) → Runs m (runs m .pulse) (runs m .machine)
+runs-is m g =
+    by-bool (λ (r : Ran). Runs m (r .pulse) (r .machine)) (not (m .move .moving)) _ _
+    (λ q. runs-turn m g (m .move .speed) (m .move .phase))
+    (λ q. untallied m _ _ (ramps-is (tallied m) (good-tallied m g) (not-false (m .move .moving) q)))

@@ -8,6 +8,7 @@ use lib.IntN.{ℤ, pos, _+ℤ_, natAbs}
 use Rattle.laws.specs.Axes.{directed}
 use Rattle.machine.specs.State.{Move, Machine}
 use Rattle.machine.specs.Shares.{whole, gone}
+use Rattle.machine.specs.Ramp.{tallied}
 use Rattle.machine.specs.List.{isPulse}
 use Rattle.machine.proofs.ShareLaws.{Share}
 
@@ -15,6 +16,10 @@ use Rattle.machine.proofs.ShareLaws.{Share}
 pub record Good (v : Move) : Type 0 where
   pub axis : (k : ℕ) → k < 5 → Share (v .plan .distance k) (whole v) (gone v) (v .travel k)
   pub under : v .moving ≡ true → gone v < whole v
+
+-- One tick more leaves it so.
+pub good-tallied : (m : Machine) → Good (m .move) → Good (tallied m .move)
+good-tallied m g = record { axis = g .axis; under = g .under }
 
 -- The end of a move at m = M: each axis at its distance, with a pulse in that very tick.
 pub record Whole (v : Move) (z : ℕ → ℤ) : Type 0 where
@@ -36,6 +41,23 @@ pub record Runs (m : Machine) (z : ℕ → ℤ) (a : Machine) : Type 0 where
   pub still : m .move .moving ≡ false → a .move .moving ≡ false
   pub stopping : a .move .moving ≡ true → a .move .stopping ≡ m .move .stopping
   pub ending : m .move .moving ≡ true → m .move .stopping ≡ false → a .move .moving ≡ false → Whole (a .move) z
+
+-- What running leaves of m, counted with one tick more.
+pub untallied : (m : Machine) (z : ℕ → ℤ) (a : Machine) → Runs (tallied m) z a → Runs m z a
+untallied m z a r = record {
+  good = r .good;
+  plan = r .plan;
+  master = r .master;
+  next = r .next;
+  count = r .count;
+  sum = r .sum;
+  single = r .single;
+  sign = r .sign;
+  rests = r .rests;
+  still = r .still;
+  stopping = r .stopping;
+  ending = r .ending;
+}
 
 pub no-pulse : (t : ℕ) → t ≡ t + isPulse (pos 0)
 no-pulse t = omega arith

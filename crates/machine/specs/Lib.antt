@@ -1,5 +1,6 @@
 pub mod State
 pub mod Shares
+pub mod Entries
 pub mod Ramp
 pub mod Stops
 pub mod Starts
@@ -11,5 +12,6 @@ pub mod Calls
 pub mod Roles
 pub mod List
 pub mod Demand
+pub mod Journal
 pub mod Marked
 pub mod Flagged

@@ -32,10 +32,10 @@ startNumber m master =
     (turnedBy 17 (some (λ k. outside (final m k)))
     0)))))
 
--- A move begins: the distances and directions set, travels at 0, speed and phase 0. Bits 3 and 6 are cleared, the dwell
--- ends and a stored start is dropped.
+-- A move begins: the distances and directions set, travels at 0, speed, phase and ticks 0. Bits 3 and 6 are cleared,
+-- the dwell ends and a stored start is dropped.
 abbrev pub newMove : Plan → ℕ → Move
-newMove p master = moveOf p master (λ k. 0) 0 0 true false
+newMove p master = moveOf p master (λ k. 0) 0 0 0 true false
 
 abbrev pub begun : Machine → ℕ → Machine
 begun m master =

@@ -21,14 +21,15 @@ pub record Plan : Type 0 where
   pub distance : ℕ → ℕ
   pub minus : ℕ → Bool
 
--- The latest move: what it started with, its travels, its speed u in fiftieths of a unit, its phase, and whether it
--- runs and is being stopped. Before any move all is 0 and plus.
+-- The latest move: what it started with, its travels, its speed u in fiftieths of a unit, its phase, the ticks in which
+-- its ramp ran (paper 02, 1/14), and whether it runs and is being stopped. Before any move all is 0 and plus.
 pub record Move : Type 0 where
   pub plan : Plan
   pub master : ℕ
   pub travel : ℕ → ℕ
   pub speed : ℕ
   pub phase : ℕ
+  pub ticks : ℕ
   pub moving : Bool
   pub stopping : Bool
 
@@ -91,14 +92,15 @@ mark f number b = record {
   sensed = cond (eqb number 6) b (f .sensed);
 }
 
--- A move by its plan, master, travels, speed and phase, and whether it runs and is being stopped.
-abbrev pub moveOf : Plan → ℕ → (ℕ → ℕ) → ℕ → ℕ → Bool → Bool → Move
-moveOf plan master travel speed phase moving stopping = record {
+-- A move by its plan, master, travels, speed, phase and ticks, and whether it runs and is being stopped.
+abbrev pub moveOf : Plan → ℕ → (ℕ → ℕ) → ℕ → ℕ → ℕ → Bool → Bool → Move
+moveOf plan master travel speed phase ticks moving stopping = record {
   plan = plan;
   master = master;
   travel = travel;
   speed = speed;
   phase = phase;
+  ticks = ticks;
   moving = moving;
   stopping = stopping;
 }

@@ -14,6 +14,7 @@ use Rattle.receiver.specs.declared.Heard.{Heard}
 use Rattle.receiver.specs.declared.Heard.the-variants.{Character, Line}
 use Rattle.receiver.specs.Receiver.{receive}
 use Rattle.machine.specs.State.{Plan, Waiting, none, start, Machine, moveOf, withLine, withWatch, withPause}
+use Rattle.machine.specs.Entries.{EntryAnswer, noEntry}
 use Rattle.machine.specs.Ramp.{Ran, runs}
 use Rattle.machine.specs.Stops.{takes, stops}
 use Rattle.machine.specs.Starts.{startNumber, begun, notes}
@@ -35,7 +36,7 @@ powerOn switch = record {
   switch = cond (badSwitch switch) 0 switch;
   settings = record { speed = 10000; slope = 16; dwell = 0; watch = 0; polarity = 0; lowOn = 0; highOn = 0 };
   next = plan₀;
-  move = moveOf plan₀ 0 (λ k. 0) 0 0 false false;
+  move = moveOf plan₀ 0 (λ k. 0) 0 0 0 false false;
   position = λ k. pos 0;
   inputs = 0;
   outputs = 0;
@@ -149,13 +150,14 @@ failure (began k) = 0
 abbrev pub looks : Machine → ℕ → Machine
 looks m w = waits (takes m w) (tries (takes m w))
 
--- The machine after a tick, the pulses, the words of the two halves, and the number of a waiting start that failed,
--- or 0.
+-- The machine after a tick, the pulses, the words of the two halves, the entry of a move that it ends (paper 02, 1/14),
+-- and the number of a waiting start that failed, or 0.
 pub record TickAnswer : Type 0 where
   pub machine : Machine
   pub pulse : ℕ → ℤ
   pub first : ℕ
   pub second : ℕ
+  pub entry : EntryAnswer
   pub number : ℕ
 
 abbrev pub ticked : Ran → ℕ → TickAnswer
@@ -164,15 +166,17 @@ ticked r n = record {
   pulse = r .pulse;
   first = word (r .machine) (r .pulse) true;
   second = word (r .machine) (r .pulse) false;
+  entry = r .entry;
   number = n;
 }
 
--- 3. An input word of 16,777,216 or more: nothing altered, pulses and words 0, this number in the failed start's place.
+-- 3. An input word of 16,777,216 or more: nothing altered, pulses and words 0, no entry, this number in the failed
+-- start's place.
 abbrev pub tooLarge : ℕ → Bool
 tooLarge w = ltb 16777215 w
 
 abbrev pub refusedTick : Machine → TickAnswer
-refusedTick m = record { machine = m; pulse = λ k. pos 0; first = 0; second = 0; number = 3 }
+refusedTick m = record { machine = m; pulse = λ k. pos 0; first = 0; second = 0; entry = noEntry; number = 3 }
 
 abbrev pub tickStep : Machine → ℕ → TickAnswer
 tickStep m w =

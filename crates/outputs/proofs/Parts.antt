@@ -8,11 +8,11 @@ use native.Mathlib.Omega.{arith}
 use borrow.Author.Tests.{lt-ltb, le-ltb, le-leb, lt-leb}
 use lib.Dec.{ltb}
 use lib.IntN.{ℤ, pos}
-use Rattle.laws.specs.Axes.{each, directed}
+use Rattle.laws.specs.Axes.{each, directed, isMinus}
 use Rattle.laws.specs.Bits.{bit}
 use Rattle.laws.proofs.BitLaws.{bit-down}
 use Rattle.laws.proofs.Pick.{on-lt, on-ge}
-use Rattle.outputs.specs.Outputs.{xor, isPlus, isMinus, hasDirection, firstLine, secondLine}
+use Rattle.outputs.specs.Outputs.{xor, isPlus, hasDirection, firstLine, secondLine}
 use Rattle.outputs.specs.Outputs.{pairOf, inversesOf, linesOf, cellOf, shownOf}
 
 -- ---- the switch

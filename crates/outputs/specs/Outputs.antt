@@ -10,7 +10,7 @@ use mathlib.Core.List.{List}
 use lib.Dec.{ltb, leb, eqb}
 use lib.IntN.{ℤ, pos, negsuc}
 use lib.ListN.{getD}
-use Rattle.laws.specs.Axes.{directed}
+use Rattle.laws.specs.Axes.{directed, isMinus}
 use Rattle.laws.specs.Bits.{bit, weight, weigh}
 
 abbrev pub xor : Bool → Bool → Bool
@@ -20,10 +20,6 @@ xor false b = b
 abbrev pub isPlus : ℤ → Bool
 isPlus (pos n) = ltb 0 n
 isPlus (negsuc n) = false
-
-abbrev pub isMinus : ℤ → Bool
-isMinus (pos n) = false
-isMinus (negsuc n) = true
 
 -- Switch 0-3 and 8-B have a pulse and a direction line, 4-7 and D-F a plus and a minus line.
 abbrev pub hasDirection : ℕ → Bool

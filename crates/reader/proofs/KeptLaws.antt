@@ -11,7 +11,7 @@ use Rattle.laws.proofs.Pick.{by-bool}
 use Rattle.digits.specs.Digits.{sixDigits}
 use Rattle.machine.specs.State.{Machine}
 use Rattle.machine.specs.Shares.{whole, gone}
-use Rattle.machine.specs.Ramp.{Ran, full, ramped, pulsed, advanced, runs}
+use Rattle.machine.specs.Ramp.{Ran, full, ramped, pulsed, advanced, ramps, tallied, runs}
 use Rattle.machine.specs.Stops.{takes, cause, stops}
 use Rattle.machine.specs.Steps.{
   powerOn,
@@ -110,13 +110,18 @@ same-advanced m u grown =
     by-bool (λ (r : Ran). Same m (r .machine)) (ltb grown full) _ _ (λ _. record { switch = refl; inputs = refl })
     (λ _. same-pulsed m u (grown - full) (gone (m .move) + 1))
 
+same-ramps : (m : Machine) → Same m (ramps m .machine)
+same-ramps m =
+    by-bool (λ (r : Ran). Same m (r .machine)) (m .move .stopping && leb (m .move .speed) (m .settings .slope)) _ _
+    (λ _. record { switch = refl; inputs = refl })
+    (λ _. same-advanced m (ramped (m .settings) (m .move)) (m .move .phase + ramped (m .settings) (m .move)))
+
 same-runs : (m : Machine) → Same m (runs m .machine)
 same-runs m =
     by-bool (λ (r : Ran). Same m (r .machine)) (not (m .move .moving)) _ _
     (λ _. record { switch = refl; inputs = refl })
-    (λ _. by-bool (λ (r : Ran). Same m (r .machine)) (m .move .stopping && leb (m .move .speed) (m .settings .slope))
-    _ _ (λ _. record { switch = refl; inputs = refl })
-    (λ _. same-advanced m (ramped (m .settings) (m .move)) (m .move .phase + ramped (m .settings) (m .move))))
+    (λ _. same-next m (tallied m) (ramps (tallied m) .machine) (record { switch = refl; inputs = refl })
+    (same-ramps (tallied m)))
 
 kept-takes : (m : Machine) (w : ℕ) → Kept m → w < sixDigits → Kept (takes m w)
 kept-takes m w k h = record { switch = k .switch; inputs = h }

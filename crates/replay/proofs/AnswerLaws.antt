@@ -11,6 +11,7 @@ use Rattle.block.proofs.Buffers.{front-over}
 use Rattle.reply.specs.declared.readings.Travel.{Travel}
 use Rattle.reply.specs.declared.readings.Position.{Position}
 use Rattle.machine.specs.State.{Machine}
+use Rattle.machine.specs.Entries.{EntryAnswer, noEntry, entry}
 use Rattle.machine.specs.Stops.{status}
 use Rattle.machine.specs.Steps.{byteStep, tickStep, bufferAfter}
 use Rattle.machine.specs.Calls.{Call, run, state}
@@ -19,10 +20,10 @@ use Rattle.controller.specs.declared.state.PowerOn.{PowerOn}
 use Rattle.controller.specs.declared.state.ByteAnswer.{ByteAnswer}
 use Rattle.controller.specs.declared.state.TickAnswer.{TickAnswer}
 use Rattle.controller.proofs.FrontLaws.{reply-room}
-use Rattle.controller.specs.Held.{held, heldPower, heldByte, heldTick, heldTravel, heldPosition}
+use Rattle.controller.specs.Held.{held, heldPower, heldByte, isEnd, heldEntry, heldTick, heldTravel, heldPosition}
 use Rattle.replay.specs.declared.play.Played.{Played}
-use Rattle.replay.specs.Digest.{mixed, tickCode, atAxis, mixedBytes, mixedAxes, travelAt, placeAt}
-use Rattle.replay.specs.Replay.{seen, begun, ticked, sent, read, heldSeen}
+use Rattle.replay.specs.Digest.{mixed, tickCode, atAxis, mixedBytes, mixedEntry, mixedAxes, travelAt, placeAt}
+use Rattle.replay.specs.Replay.{seen, begun, entryTold, ticked, sent, read, heldSeen}
 
 pub begun-is : (s : ℕ) (on : PowerOn) (n r : ℕ) → on ≡ heldPower s → n ≡ on .number → r ≡ mixed 0 n 0 0
     → _≡_ {A = Played} (record { controller = on .controller; digest = r }) (heldSeen s (begun s))
@@ -32,15 +33,25 @@ begun-is s on n r e p q = λ i. record {
   digest = (q ∙ ap (λ (x : ℕ). mixed 0 x 0 0) (p ∙ ap (λ (x : PowerOn). x .number) e)) i;
 }
 
-pub tick-is : (s : ℕ) (h : List Call) (w g : ℕ) (a : TickAnswer) (n r : ℕ) → a ≡ heldTick (tickStep (state s h) w)
-    → n ≡ tickCode (atAxis (a .pulses)) (a .number) → r ≡ mixed g (a .first) (a .second) n
+-- A flag and an entry tell what they hold.
+entry-told : (x : EntryAnswer) (g : ℕ) → cond (isEnd x) (mixedEntry g (heldEntry x)) g ≡ entryTold x g
+entry-told noEntry g = refl
+entry-told (entry e) g = refl
+
+pub tick-is : (s : ℕ) (h : List Call) (w g : ℕ) (a : TickAnswer) (n o r : ℕ) → a ≡ heldTick (tickStep (state s h) w)
+    → o ≡ cond (a .ended) (mixedEntry g (a .entry)) g → n ≡ tickCode (atAxis (a .pulses)) (a .number)
+    → r ≡ mixed o (a .first) (a .second) n
     → _≡_ {A = Played} (record { controller = a .controller; digest = r }) (heldSeen s (ticked s w (seen h g)))
 unfolding tickCode run
-tick-is s h w g a n r e p q = λ i. record {
+tick-is s h w g a n o r e t p q = λ i. record {
   controller = e i .controller;
-  digest = (q ∙ (λ j. mixed g (e j .first) (e j .second) (code j))) i;
+  digest = (q ∙ (λ j. mixed (entered j) (e j .first) (e j .second) (code j))) i;
 }
   where
+    entered : o ≡ entryTold (tickStep (state s h) w .entry) g
+    entered =
+        t ∙ ((λ j. cond (e j .ended) (mixedEntry g (e j .entry)) g) ∙ entry-told (tickStep (state s h) w .entry) g)
+
     code : n ≡ tickCode (tickStep (state s h) w .pulse) (tickStep (state s h) w .number)
     code = p ∙ ap (λ (x : TickAnswer). tickCode (atAxis (x .pulses)) (x .number)) e
 

@@ -1,3 +1,4 @@
 mod DigestLaws
+mod RaisedLaws
 mod AnswerLaws
 mod PlayLaws

@@ -1,10 +1,11 @@
 -- The digest of the answers to a list of calls: a number of 32 bits, into which each answer is mixed.
-use Prim.Native.Nat.{ℕ, zero, suc, _+_, _*_, _%_}
+use Prim.Native.Nat.{ℕ, zero, suc, _+_, _-_, _*_, _/_, _%_}
 use mathlib.Core.Bool.{cond}
 use mathlib.Core.List.{List, [], _∷_}
 use lib.Dec.{eqb}
 use lib.IntN.{ℤ, pos, negsuc}
 use lib.ListN.{getD}
+use Rattle.journal.specs.declared.Entry.{Entry}
 use Rattle.reply.specs.declared.readings.Travel.{Travel}
 use Rattle.reply.specs.declared.readings.Position.{Position}
 
@@ -28,15 +29,30 @@ unfoldable pub mixedBytes : ℕ → List ℕ → ℕ
 mixedBytes h [] = h
 mixedBytes h (b ∷ bs) = mixedBytes (mixed h b 0 0) bs
 
+-- What a list of signed numbers has for an axis.
+abbrev pub atAxis : List ℤ → ℕ → ℤ
+atAxis numbers k = getD numbers k (pos 0)
+
+-- A signed number of 32 bits with 2,147,483,648 added.
+abbrev pub raised : ℤ → ℕ
+raised (pos n) = 2147483648 + n
+raised (negsuc n) = 2147483647 - n
+
+-- The entry of a move mixed in: ticks in two halves and cause, then the travels.
+unfoldable pub mixedEntry : ℕ → Entry → ℕ
+mixedEntry h e =
+    mixed (mixed (mixed h (e .ticks % 4294967296) (e .ticks / 4294967296) (e .cause)) (travel 0) (travel 1) (travel 2))
+    (travel 3) (travel 4) 0
+  where
+    travel : ℕ → ℕ
+    travel k = raised (atAxis (e .travels) k)
+
 -- Travel and place of each axis below n mixed in, with its number.
 unfoldable pub mixedAxes : (ℕ → ℕ) → (ℕ → ℕ) → ℕ → ℕ → ℕ
 mixedAxes travel place h zero = h
 mixedAxes travel place h (suc k) = mixed (mixedAxes travel place h k) (travel k) (place k) k
 
 -- ---- What a list holds of an axis
-
-abbrev pub atAxis : List ℤ → ℕ → ℤ
-atAxis pulses k = getD pulses k (pos 0)
 
 abbrev pub travelAt : List Travel → ℕ → ℕ
 travelAt travels k = getD travels k (record { 0 = 0 }) .0

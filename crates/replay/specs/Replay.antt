@@ -8,6 +8,7 @@ use lib.Dec.{eqb, ltb}
 use lib.ListN.{length, getD, replicate}
 use Rattle.reply.specs.Reply.{bias}
 use Rattle.machine.specs.State.{Machine}
+use Rattle.machine.specs.Entries.{EntryAnswer, noEntry, entry}
 use Rattle.machine.specs.Replies.{travelOf, positionOf}
 use Rattle.machine.specs.Stops.{status}
 use Rattle.machine.specs.Steps as steps
@@ -15,7 +16,7 @@ use Rattle.machine.specs.Steps.{powerNumber, byteStep, tickStep, bufferAfter}
 use Rattle.machine.specs.Calls.{Call, byte, tick, state}
 use Rattle.controller.specs.Held.{held}
 use Rattle.replay.specs.declared.play.Played.{Played}
-use Rattle.replay.specs.Digest.{mixed, tickCode, mixedBytes, mixedAxes}
+use Rattle.replay.specs.Digest.{mixed, tickCode, mixedBytes, mixedEntry, mixedAxes}
 
 -- The calls so far, the latest first, and the digest of their answers.
 pub record Seen : Type 0 where
@@ -29,9 +30,14 @@ seen h digest = record { calls = h; digest = digest }
 abbrev pub begun : ℕ → Seen
 begun switch = seen [] (mixed 0 (powerNumber switch) 0 0)
 
--- A tick: the words of its halves, and its pulses and number.
+-- The entry of a move that ends.
+abbrev pub entryTold : EntryAnswer → ℕ → ℕ
+entryTold noEntry digest = digest
+entryTold (entry e) digest = mixedEntry digest e
+
+-- A tick: the entry that it answers; then the words of its halves, and its pulses and number.
 abbrev pub tickTold : steps.TickAnswer → ℕ → ℕ
-tickTold a digest = mixed digest (a .first) (a .second) (tickCode (a .pulse) (a .number))
+tickTold a digest = mixed (entryTold (a .entry) digest) (a .first) (a .second) (tickCode (a .pulse) (a .number))
 
 abbrev pub ticked : ℕ → ℕ → Seen → Seen
 ticked switch word x =

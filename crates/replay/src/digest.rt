@@ -1,9 +1,12 @@
 // The digest of answers: each is mixed in as three numbers, each with a factor of its own, so that none stands for
 // another. Every function is total. Assumes nothing.
 ghost use Prim.Native.Nat.{_≤_};
+ghost use mathlib.Core.Bool.{cond};
 ghost use mathlib.Core.Path.{_≡_};
 ghost use Rattle.replay.specs.Digest.{mixed, pulseCode, tickCode, atAxis, mixedBytes, mixedAxes};
+ghost use Rattle.replay.specs.Digest.{raised, mixedEntry};
 ghost use Rattle.replay.specs.Digest.{travelAt, placeAt};
+use journal::Entry;
 use reply::Position;
 use reply::Travel;
 
@@ -50,6 +53,40 @@ pub(crate) fn bytes(h: u32, buf: &[u8]) -> u32
         i += 1;
     }
     digest
+}
+
+// A signed number with 2,147,483,648 added.
+fn raise(z: i32) -> u32
+    ensures { λ r. ⌜ r ≡ raised z ⌝ }
+{
+    (z as i64 + 2147483648) as u32
+}
+
+// A digest with an entry more.
+fn told(h: u32, entry: Entry) -> u32
+    ensures { λ r. ⌜ r ≡ mixedEntry h entry ⌝ }
+{
+    let low = (entry.ticks % 4294967296) as u32;
+    let high = (entry.ticks / 4294967296) as u32;
+    let travels = entry.travels;
+    let a = raise(travels[0]);
+    let b = raise(travels[1]);
+    let c = raise(travels[2]);
+    let d = raise(travels[3]);
+    let e = raise(travels[4]);
+    let counted = mix(h, low, high, entry.cause as u32);
+    let moved = mix(counted, a, b, c);
+    mix(moved, d, e, 0)
+}
+
+// The same where a move ended.
+pub(crate) fn entered(h: u32, ended: bool, entry: Entry) -> u32
+    ensures { λ r. ⌜ r ≡ cond ended (mixedEntry h entry) h ⌝ }
+{
+    if ended {
+        return told(h, entry);
+    }
+    h
 }
 
 // A digest with the travel and the position of each axis more.

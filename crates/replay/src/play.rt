@@ -15,16 +15,18 @@ pub(crate) struct Played {
     pub(crate) digest: u32,
 }
 
-// One tick.
+// One tick. The entry goes in first: the compiler then joins its test with the controller's own.
 fn tick(was: Played, word: u32) -> Played
     requires { ⌜ Reachable (was .controller) ⌝ }
     ensures { λ r. ⌜ Plays was r (λ s. ticked s word) ⌝ }
 {
     let before = was.controller;
     let a = before.tick(word);
+    let entry = a.entry;
+    let entered = digest::entered(was.digest, a.ended, entry);
     let pulses = a.pulses;
     let code = digest::tick_code(pulses, a.number);
-    let digest = digest::mix(was.digest, a.first, a.second, code);
+    let digest = digest::mix(entered, a.first, a.second, code);
     let controller = a.controller;
     Played { controller, digest }
 }

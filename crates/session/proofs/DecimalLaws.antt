@@ -1,16 +1,16 @@
--- Laws of decimal digits, one by one, and of texts laid one behind another into a buffer. Assumes nothing.
+-- Laws of decimal digits, one by one, and laid into a buffer. Assumes nothing.
 use Prim.Native.Nat.{ℕ, zero, suc, _+_, _*_, _/_, _%_, _≤_, _<_}
 use native.Mathlib.Numerals.{add-one}
 use native.Mathlib.Omega.{arith}
 use mathlib.Core.Bool.{cond}
-use mathlib.Core.List.{List, [], _∷_, _++_, append-assoc}
+use mathlib.Core.List.{List, [], _∷_, _++_}
 use mathlib.Core.Path.{_≡_, sym, ap, _∙_}
 use borrow.Author.Tests.{lt-ltb, le-ltb}
 use lib.Dec.{ltb}
-use lib.ListN.{length, getD, take, drop, set, length-append, length-take, length-drop, take-append-drop}
-use lib.Seq.{take-append-seam, drop-append-seam, drop-cons, drop-drop, set-append-seam}
+use lib.ListN.{length, set, length-append}
 use Rattle.laws.proofs.Pick.{by-lt}
-use Rattle.block.specs.Block.{over, put}
+use Rattle.block.specs.Block.{put}
+use Rattle.block.proofs.Places.{put-one, put-snoc}
 use Rattle.session.specs.Text.{spell, decimalOf}
 
 -- ---- decimal digits
@@ -54,45 +54,6 @@ decimal-most (suc k) n h =
 pub decimal-ten : (n : ℕ) → n < 4294967296 → length (decimalOf n) ≤ 10
 unfolding tens
 decimal-ten n h = decimal-most 9 n (omega arith)
-
--- ---- laid one behind another
-
--- One byte more behind what was laid.
-pub put-snoc : (at : ℕ) (s d : List ℕ) (b : ℕ) → at + length s < length d
-    → set (put at s d) (at + length s) b ≡ put at (s ++ (b ∷ [])) d
-unfolding put over
-put-snoc at s d b h =
-    let l : length s < length (drop at d) = omega (arith, length-drop at d) in
-    let e : length (take at d ++ s) ≡ at + length s = rw (length-append, length-take) (omega arith) in
-    let n : length (s ++ (b ∷ [])) ≡ suc (length s) = rw length-append (omega arith) in
-    rw (drop-cons (drop at d) (length s) 0 l, ← e, ← append-assoc (take at d) s)
-    (set-append-seam (take at d ++ s) (getD (drop at d) (length s) 0) (drop (suc (length s)) (drop at d)) b
-    ∙ rw (n, append-assoc (take at d) s, append-assoc s (b ∷ [])))
-
-put-none : (at : ℕ) (d : List ℕ) → put at [] d ≡ d
-unfolding put over
-put-none at d = take-append-drop at d
-
-pub put-one : (at : ℕ) (d : List ℕ) (b : ℕ) → at < length d → set d at b ≡ put at (b ∷ []) d
-put-one at d b h =
-    let e : at ≡ at + 0 = omega arith in
-    (λ i. set (sym (put-none at d) i) (e i) b) ∙ put-snoc at [] d b (omega arith)
-
--- One thing behind another.
-pub put-put : (at : ℕ) (a b d : List ℕ) → at + length a ≤ length d
-    → put (at + length a) b (put at a d) ≡ put at (a ++ b) d
-unfolding put over
-put-put at a b d h =
-    let e : length (take at d ++ a) ≡ at + length a = rw (length-append, length-take) (omega arith) in
-    rw (
-      ← append-assoc (take at d) a (drop (length a) (drop at d)),
-      ← e,
-      take-append-seam,
-      drop-append-seam,
-      length-append a b,
-      drop-drop (length b) (length a) (drop at d),
-    )
-    (append-assoc (take at d) a _ ∙ ap (λ (x : List ℕ). take at d ++ x) (sym (append-assoc a b _)))
 
 -- ---- the digits of a number laid at a place
 

@@ -11,6 +11,7 @@ use lib.Seq.{take-suc, take-append-seam, drop-append-seam, getD-drop, length-tak
 use Rattle.laws.proofs.Pick.{by-bool}
 use Rattle.block.specs.Block.{over}
 use Rattle.block.proofs.Buffers.{put-front}
+use Rattle.block.proofs.Places.{put-snoc}
 use Rattle.receiver.specs.Receiver.{receive}
 use Rattle.reply.proofs.Replies.{reply-most, refusal-most}
 use Rattle.machine.specs.State.{Machine}
@@ -32,7 +33,6 @@ use Rattle.controller.specs.declared.state.ByteAnswer.{ByteAnswer}
 use Rattle.controller.specs.Held.{heldByte}
 use Rattle.machine.specs.Calls.{buffer}
 use Rattle.session.specs.Session.{shownByte, shown, Passed}
-use Rattle.session.proofs.DecimalLaws.{put-snoc}
 
 -- ---- byte by byte
 

@@ -15,6 +15,7 @@ use mir.ValLaws.{toZ-ofZ}
 use Rattle.laws.specs.Axes.{each}
 use Rattle.laws.proofs.Pick.{by-lt}
 use Rattle.laws.proofs.Five.{five}
+use Rattle.laws.proofs.Signs.{neg-size}
 use Rattle.machine.specs.State.{Machine}
 use Rattle.machine.specs.Steps.{tickStep}
 use Rattle.machine.specs.Starts.{outside}
@@ -65,11 +66,6 @@ add-size (pos m) (pos n) = omega arith
 add-size (pos m) (negsuc n) = sub-size m (suc n)
 add-size (negsuc m) (pos n) = omega (arith, sub-size n (suc m))
 add-size (negsuc m) (negsuc n) = omega arith
-
-pub neg-size : (a : ℤ) → natAbs (negℤ a) ≡ natAbs a
-neg-size (pos zero) = refl
-neg-size (pos (suc n)) = refl
-neg-size (negsuc n) = refl
 
 -- What leads from one number to another is no larger than both.
 way-size : (a x b : ℤ) → b ≡ a +ℤ x → natAbs x ≤ natAbs a + natAbs b

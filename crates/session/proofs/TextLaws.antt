@@ -8,11 +8,12 @@ use mathlib.Core.Path.{_≡_, refl, sym, ap, _∙_}
 use borrow.Author.Tests.{lt-ltb, le-ltb}
 use lib.IntN.{ℤ, pos, natAbs}
 use lib.ListN.{length, getD, set, length-append}
+use Rattle.laws.specs.Axes.{isMinus}
 use Rattle.block.specs.Block.{over, put}
 use Rattle.block.proofs.Buffers.{put-over}
+use Rattle.block.proofs.Places.{put-snoc, put-one, put-put}
 use Rattle.session.specs.Text.{
   decimalOf,
-  isMinus,
   signText,
   itemText,
   markOf,
@@ -21,7 +22,7 @@ use Rattle.session.specs.Text.{
   sumsLength,
   sumsOver,
 }
-use Rattle.session.proofs.DecimalLaws.{put-snoc, put-one, put-put, decimal-ten}
+use Rattle.session.proofs.DecimalLaws.{decimal-ten}
 
 -- ---- numbers with their signs and marks
 

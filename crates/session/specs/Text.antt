@@ -1,10 +1,11 @@
 -- Five sums as the bench program prints them: in decimal, a space between two of them, a line feed after the last.
 use Prim.Native.Nat.{ℕ, zero, suc, _+_, _/_, _%_}
-use mathlib.Core.Bool.{Bool, true, false, cond}
+use mathlib.Core.Bool.{Bool, cond}
 use mathlib.Core.List.{List, [], _∷_, _++_}
 use lib.Dec.{ltb, eqb}
-use lib.IntN.{ℤ, pos, negsuc, natAbs}
+use lib.IntN.{ℤ, pos, natAbs}
 use lib.ListN.{length, getD}
+use Rattle.laws.specs.Axes.{isMinus}
 use Rattle.block.specs.Block.{over}
 
 -- The decimal digits of n, the highest first, up to so many of them.
@@ -15,10 +16,6 @@ spell (suc most) n = cond (ltb n 10) ((48 + n) ∷ []) (spell most (n / 10) ++ (
 -- All of them: n has no more than n + 1.
 unfoldable pub decimalOf : ℕ → List ℕ
 decimalOf n = spell (n + 1) n
-
-abbrev pub isMinus : ℤ → Bool
-isMinus (pos n) = false
-isMinus (negsuc n) = true
 
 -- A minus sign (45) stands before the digits of a number below 0.
 abbrev pub signText : Bool → ℕ → List ℕ

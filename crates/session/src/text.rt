@@ -1,11 +1,11 @@
 // Sums as text (paper 01, "Host end and program"). Assumes nothing.
 ghost use Prim.Native.Nat.{_+_, _≤_};
-ghost use mathlib.Core.List.{[], _∷_, _++_};
 ghost use mathlib.Core.Path.{_≡_};
 ghost use lib.IntN.{natAbs};
 ghost use lib.ListN.{length};
+ghost use Rattle.laws.specs.Axes.{isMinus};
 ghost use Rattle.block.specs.Block.{put};
-ghost use Rattle.session.specs.Text.{decimalOf, isMinus, signText, itemText, markOf, sumsLength, sumsOver};
+ghost use Rattle.session.specs.Text.{decimalOf, signText, itemText, markOf, sumsLength, sumsOver};
 
 // The bytes that five sums need at most: ten digits, a sign and a mark each.
 const ROOM: usize = 60;

@@ -105,15 +105,6 @@ fn shown(reading: Reading) -> Text {
     }
 }
 
-// The sixteen bytes of a line, zeros after its last.
-fn bytes_of(line: &[u8]) -> [u8; 16] {
-    let mut bytes = [0u8; 16];
-    for i in 0..16 {
-        bytes[i] = form::byte(line, 2 * i + 2);
-    }
-    bytes
-}
-
 // A line `B hh..` of up to sixteen bytes, or one of no form.
 pub(crate) fn answer(line: &[u8]) -> Text {
     let n = line.len();
@@ -122,7 +113,7 @@ pub(crate) fn answer(line: &[u8]) -> Text {
     }
     let longest = b"B hhhhhhhhhhhhhhhhhhhhhhhhhhhhhhhh";
     if n % 2 == 0 && form::fits(line, block::front(longest, n)) {
-        let bytes = bytes_of(line);
+        let bytes = form::bytes(line, 2);
         let reading = reader::read_block(block::front(&bytes, n / 2 - 1));
         return shown(reading);
     }

@@ -1,5 +1,9 @@
 // The form of a line, and the numbers in its fields.
+ghost use Prim.Native.Nat.{_≤_};
 use digits::Digit;
+
+// The most bytes that a line has side by side.
+pub(crate) const MOST: usize = 40;
 
 // The value of a capital hexadecimal digit, or 16.
 fn value(c: u8) -> u8 {
@@ -11,14 +15,16 @@ fn value(c: u8) -> u8 {
     }
 }
 
-// Whether a character may stand where a form has this letter: `h` is a digit, `f` 0 or 1, `k` V or A, `g` a sign or N;
-// any other stands for itself.
+// Whether a character may stand where a form has this letter: `h` is a digit, `d` one from 0 to 7, `f` 0 or 1, `k` V or
+// A, `g` a sign or N, `p` a sign; any other stands for itself.
 fn allows(letter: u8, c: u8) -> bool {
     match letter {
         b'h' => value(c) < 16,
+        b'd' => value(c) < 8,
         b'f' => c == b'0' || c == b'1',
         b'k' => c == b'V' || c == b'A',
         b'g' => c == b'+' || c == b'-' || c == b'N',
+        b'p' => c == b'+' || c == b'-',
         _ => c == letter,
     }
 }
@@ -66,4 +72,15 @@ pub(crate) fn byte(line: &[u8], at: usize) -> u8 {
         return 0;
     }
     (number(line, at, at + 2) % 256) as u8
+}
+
+// Two digits each from a place on, zeros after the line's last.
+pub(crate) fn bytes(line: &[u8], from: usize) -> [u8; MOST]
+    requires { ⌜ from ≤ 100 ⌝ }
+{
+    let mut bytes = [0u8; MOST];
+    for i in 0..MOST {
+        bytes[i] = byte(line, 2 * i + from);
+    }
+    bytes
 }

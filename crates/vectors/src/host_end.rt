@@ -1,7 +1,8 @@
-// The host end on one line of the page.
+// The host end and the journal on one line of the page.
 use crate::blocks;
 use crate::digests;
 use crate::form;
+use crate::journal_lines;
 use crate::pairs;
 use crate::settings;
 use crate::text::Text;
@@ -41,6 +42,15 @@ pub(crate) fn answer(line: &[u8]) -> Text {
     }
     if form::fits(line, b"G hhhhh hhhhh") {
         return pairs::answer(line);
+    }
+    if form::fits(
+        line,
+        b"A hh hh hhhhhhhhhhhhhhhh hh pdhhhhhhh pdhhhhhhh pdhhhhhhh pdhhhhhhh pdhhhhhhh",
+    ) {
+        return journal_lines::append(line);
+    }
+    if form::at(line, 0) == b'J' {
+        return journal_lines::read(line);
     }
     blocks::answer(line)
 }

@@ -1,8 +1,8 @@
 // Runs all that is stored in the folder data: sessions of the bench program, lists of calls, and vectors of the host
-// end (docs/VECTORS.md). The arguments are pairs: `session`, `lists` or `vectors`, and the file to read, `-` for
-// standard input. A file's answers come after a line with its name. What is printed is compared with what the reference
-// prints, not proved; every function here is proved safe and ending. Assumes nothing beyond the contracts of the C
-// functions that read, write, open a file and hand out the arguments.
+// end and of the journal (docs/VECTORS.md). The arguments are pairs: `session`, `lists` or `vectors`, and the file to
+// read, `-` for standard input. A file's answers come after a line with its name. What is printed is compared with what
+// the reference prints, not proved; every function here is proved safe and ending. Assumes nothing beyond the contracts
+// of the C functions that read, write, open a file and hand out the arguments.
 use crate::input::Program;
 use crate::text::Text;
 use libc::STDIN_FILENO;
@@ -14,6 +14,7 @@ mod digests;
 mod form;
 mod host_end;
 mod input;
+mod journal_lines;
 mod lists;
 mod pairs;
 mod settings;

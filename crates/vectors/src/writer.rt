@@ -9,10 +9,10 @@ use host::Written;
 use line::command::Command;
 use line::command::Reading;
 
-// The longest line buffer, and what each of its bytes is before.
-const ROOM: usize = 64;
+// The longest buffer of a line or a journal, and what each of its bytes is before.
+pub(crate) const ROOM: usize = 64;
 
-const BEFORE: u8 = 90;
+pub(crate) const BEFORE: u8 = 90;
 
 // The highest number of a command in the page's table.
 const LAST: u8 = 17;
@@ -66,8 +66,8 @@ fn with_bytes(text: Text, s: &[u8]) -> Text {
     told
 }
 
-// The number and the length that the writer answers, then the whole buffer.
-fn told(number: u8, length: usize, buf: &[u8]) -> Text {
+// The number and the length, or the place, that a writer answers, then the whole buffer.
+pub(crate) fn told(number: u8, length: usize, buf: &[u8]) -> Text {
     let answer = Text::new().number(number).with(b' ');
     with_bytes(answer.hex(length as u64, 2), buf)
 }

@@ -1,1 +1,2 @@
 pub mod WitnessLaws
+pub mod EntryWitnessLaws

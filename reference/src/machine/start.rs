@@ -49,6 +49,7 @@ impl Machine {
         self.stopping = false;
         self.ramp_speed = 0;
         self.phase = 0;
+        self.move_ticks = 0;
         self.dwell = 0;
         self.waiting = None;
         self.stopped = false;

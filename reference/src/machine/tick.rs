@@ -22,7 +22,7 @@ impl Machine {
     /// Stops: one tick, in the tick order.
     pub fn tick(&mut self, word: u32) -> TickAnswer {
         if word >= INPUT_WORD_END {
-            return TickAnswer { pulses: [0; 5], words: [0, 0], number: 3 };
+            return TickAnswer { pulses: [0; 5], words: [0, 0], number: 3, entry: None };
         }
         self.inputs.word = word;
         self.raise_watch_count();
@@ -30,8 +30,8 @@ impl Machine {
         self.clear_outputs_by_watch();
         let number = self.count_dwell_down();
         self.begin_stop_by_cause();
-        let pulses = self.ramp_and_pulses();
+        let (pulses, entry) = self.ramp_and_pulses();
         let words = output_words(self.switch, pulses, self.latest.minus, self.polarity, self.general_outputs);
-        TickAnswer { pulses, words, number }
+        TickAnswer { pulses, words, number, entry }
     }
 }

@@ -1,6 +1,7 @@
-//! Ramp and shares: the running move goes on for one tick, sends its pulses and ends.
+//! Ramp and shares: the running move goes on for one tick, sends its pulses and ends; its end answers an entry.
 
 use super::{Machine, TICKS_PER_MS};
+use crate::journal::{Entry, COMPLETE, STOPPED};
 use crate::ramp::{running_tick, stopping_tick, RampTick};
 use crate::share::shares;
 
@@ -56,11 +57,8 @@ impl Machine {
         pulses
     }
 
-    /// Ramp: ramp and pulses of one tick.
-    pub(super) fn ramp_and_pulses(&mut self) -> [i8; 5] {
-        if !self.moving {
-            return [0; 5];
-        }
+    /// Ramp: one tick of a running move.
+    fn move_tick(&mut self) -> [i8; 5] {
         match self.ramp_tick() {
             RampTick::Ended => {
                 self.end_move();
@@ -68,5 +66,44 @@ impl Machine {
             }
             RampTick::Going { speed, phase, pulse } => self.go_on(speed, phase, pulse),
         }
+    }
+
+    /// Journal: the cause of an end is 0 where m reached M, else 1.
+    fn cause(&self) -> u8 {
+        let (master_distance, m) = self.master_distance_and_travel();
+        if m == master_distance {
+            COMPLETE
+        } else {
+            STOPPED
+        }
+    }
+
+    /// Journal: the five signed travels, in the latest move's directions.
+    fn signed_travels(&self) -> [i32; 5] {
+        let mut travels = self.travels.map(|travel| travel as i32);
+        for (travel, minus) in travels.iter_mut().zip(self.latest.minus) {
+            if minus {
+                *travel = -*travel;
+            }
+        }
+        travels
+    }
+
+    /// Journal: the tick that ends a move, and no other, answers its entry.
+    fn entry_at_end(&self) -> Option<Entry> {
+        if self.moving {
+            return None;
+        }
+        Some(Entry { ticks: self.move_ticks, cause: self.cause(), travels: self.signed_travels() })
+    }
+
+    /// Ramp: ramp and pulses of one tick, and the entry of a move that ends in it; the tick counts as moved.
+    pub(super) fn ramp_and_pulses(&mut self) -> ([i8; 5], Option<Entry>) {
+        if !self.moving {
+            return ([0; 5], None);
+        }
+        self.move_ticks += 1;
+        let pulses = self.move_tick();
+        (pulses, self.entry_at_end())
     }
 }

@@ -1,14 +1,15 @@
 //! Stored vectors, W: a command value by its numbers, and what the writer leaves in the line buffer.
 
+use super::written_text;
 use crate::command::{Command, CommandValue};
 use crate::digit::capital_digit_value;
-use crate::fields::{bytes_text, eight_digits, two_digits, zero_or_one};
+use crate::fields::{eight_digits, two_digits, zero_or_one};
 use crate::host::write_line;
 
-/// Stored vectors, W: the longest line buffer.
+/// Stored vectors, W and A: the longest buffer.
 pub const LONGEST_LINE_BUFFER: u8 = 0x40;
 
-/// Stored vectors, W: each byte of the buffer before.
+/// Stored vectors, W and A: each byte of the buffer before.
 pub const BYTE_BEFORE: u8 = 0x5A;
 
 /// Host end: a figure that is the writer's value for a character that is no identification; it has no line.
@@ -60,14 +61,6 @@ fn command_of_number(number: u8, axis: u8, flag: bool, value: u32) -> Option<Com
         _ => return None,
     };
     Some(command)
-}
-
-/// Stored vectors, W: number, length of the line, each byte of the whole buffer.
-fn written_text(number: u8, length: usize, buf: &[u8]) -> String {
-    if buf.is_empty() {
-        return format!("{number:02} {length:02X}\n");
-    }
-    format!("{number:02} {length:02X} {}\n", bytes_text(buf))
 }
 
 /// Stored vectors, W: the writer is run with a buffer of so many bytes.

@@ -2,6 +2,7 @@
 
 #![allow(dead_code)]
 
+pub mod followed;
 pub mod programs;
 pub mod refused;
 pub mod sequence;

@@ -3,25 +3,41 @@ use borrow.Author.Needs.{needs}
 use Prim.Native.Nat.{ℕ}
 use mathlib.Core.Path.{_≡_, sym, _∙_}
 use Rattle.machine.specs.Demand.{Demand3}
+use Rattle.machine.specs.Journal.{Journal}
 use Rattle.machine.specs.Marked.{Marked}
 use Rattle.machine.proofs.DemandLaws.{demand-3}
 use Rattle.machine.proofs.MarkedLaws.{marked}
+use Rattle.machine.proofs.TakenLaws.{journal-is}
+use Rattle.witness.specs.Entries.{EntryWitness}
 use Rattle.witness.specs.Witness.{Witness}
+use Rattle.witness.proofs.EntryWitnessLaws.{entries}
 use Rattle.witness.proofs.WitnessLaws.{witness}
 use Rattle.controller.specs.declared.state.PowerOn.{PowerOn}
 use Rattle.controller.specs.Held.{heldPower}
 use Rattle.controller.specs.Reach.{Reachable}
 use Rattle.controller.specs.Answers.{Demand3Answers}
+use Rattle.controller.specs.Journal.{JournalAnswers}
 use Rattle.controller.proofs.EntryPowerLaws.{power-bad, power-good}
 use Rattle.controller.proofs.ReachLaws.{reach-power}
 use Rattle.controller.proofs.AnswerLaws.{demand-3-answers}
+use Rattle.controller.proofs.JournalAnswerLaws.{journal-answers}
 use Rattle.controller.proofs.power_on.Statement.{statement}
 use Rattle.controller.proofs.power_on.Tie as tie
 
 -- What power-on promises, given its answer.
 powered : (s : ℕ) (r : PowerOn) → r ≡ heldPower s
-    → (r ≡ heldPower s) × (Demand3 × (Marked × (Witness × (Demand3Answers × Reachable (r .controller)))))
-powered s r e = (e, (demand-3, (marked, (witness, (demand-3-answers, reach-power s r e)))))
+    → (r ≡ heldPower s)
+    × (Demand3
+    × (Marked
+    × (Witness
+    × (Demand3Answers × (Journal × (JournalAnswers × (EntryWitness × Reachable (r .controller))))))))
+powered s r e = (
+  e,
+  (
+    demand-3,
+    (marked, (witness, (demand-3-answers, (journal-is, (journal-answers, (entries, reach-power s r e)))))),
+  ),
+)
 
 is-bad-requires : tie.Need-is-bad-requires
 is-bad-requires c κs = search needs

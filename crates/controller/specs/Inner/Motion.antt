@@ -20,7 +20,7 @@ use Rattle.controller.specs.declared.motion.Share.{Share}
 use Rattle.controller.specs.declared.motion.Axis.{Axis}
 use Rattle.controller.specs.declared.ramp.Paced.{Paced}
 use Rattle.controller.specs.declared.motion.Ran.{Ran}
-use Rattle.controller.specs.Held.{heldHot}
+use Rattle.controller.specs.Held.{heldHot, isEnd}
 use Rattle.controller.specs.Inner.Ramp.{paceOf, PaceFits}
 use Rattle.controller.specs.Inner.Words.{wordOf, WiresFit}
 use Rattle.controller.specs.Inner.Parts.{withCounters, withRun, withPause, travelAt, positionAt}
@@ -91,12 +91,13 @@ steppedOf h run left a b c d e =
       positions = a .position ∷ b .position ∷ c .position ∷ d .position ∷ e .position ∷ [];
     })) run) left (h .pause .waiting)
 
--- By the run, the dwell and the five axes after the tick.
-abbrev pub runsGiven : Hot → Run → ℕ → Axis → Axis → Axis → Axis → Axis → Ran
-runsGiven h run left a b c d e = record {
+-- By the run, whether it ends, the dwell and the five axes after the tick.
+abbrev pub runsGiven : Hot → Run → Bool → ℕ → Axis → Axis → Axis → Axis → Axis → Ran
+runsGiven h run ends left a b c d e = record {
   hot = steppedOf h run left a b c d e;
   pulses = a .pulse ∷ b .pulse ∷ c .pulse ∷ d .pulse ∷ e .pulse ∷ [];
   first = wordOf (h .wires) (a .on) (b .on) (c .on) (d .on) (e .on);
+  ends = ends;
 }
 
 -- One axis of the five.
@@ -106,10 +107,10 @@ runsAxis h fires k = axisStepOf fires (h .plan) (h .counters) (h .run .length) k
 -- By the tick of the ramp.
 abbrev pub runsPaced : Settings → Hot → Paced → Ran
 runsPaced s h p =
-    runsGiven h (p .run) (dwellLeftOf (p .ends) (s .dwell) (h .pause .left)) (runsAxis h (p .fires) 0)
+    runsGiven h (p .run) (p .ends) (dwellLeftOf (p .ends) (s .dwell) (h .pause .left)) (runsAxis h (p .fires) 0)
     (runsAxis h (p .fires) 1) (runsAxis h (p .fires) 2) (runsAxis h (p .fires) 3) (runsAxis h (p .fires) 4)
 
--- What ramp and pulses leave, the pulses, and the first output word.
+-- What ramp and pulses leave, the pulses, the first output word, and whether the move ends.
 abbrev pub runsOf : Settings → Hot → Ran
 runsOf s h = runsPaced s h (paceOf s (h .run))
 
@@ -120,6 +121,11 @@ pub record RunFits (s : Settings) (h : Hot) : Type 0 where
   pub ramp : PaceFits s (h .run)
   pub axes : h .run .moving ≡ true → (k : ℕ) → k < 5 → AxisFits (h .plan) (h .counters) (h .run .length) k
 
--- What a tick's ramp leaves of a machine, as it is held, with the pulses and the first word.
+-- What a tick's ramp leaves of a machine, as it is held, with the pulses, the first word and whether the move ends.
 abbrev pub heldRan : ramp.Ran → Ran
-heldRan r = record { hot = heldHot (r .machine); first = word (r .machine) (r .pulse) true; pulses = each (r .pulse) }
+heldRan r = record {
+  hot = heldHot (r .machine);
+  first = word (r .machine) (r .pulse) true;
+  pulses = each (r .pulse);
+  ends = isEnd (r .entry);
+}

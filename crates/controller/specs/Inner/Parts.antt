@@ -43,9 +43,10 @@ mark f number b = record {
   sensed = cond (eqb number 6) b (f .sensed);
 }
 
--- A run by its length, what is gone of it, speed, phase and master, and whether it moves and is being stopped.
-abbrev pub runOf : ℕ → ℕ → ℕ → ℕ → ℕ → Bool → Bool → Run
-runOf length gone speed phase master moving stopping = record {
+-- A run by its length, what is gone of it, speed, phase and master, whether it moves and is being stopped, and its
+-- ticks in two halves.
+abbrev pub runOf : ℕ → ℕ → ℕ → ℕ → ℕ → Bool → Bool → ℕ → ℕ → Run
+runOf length gone speed phase master moving stopping ticks rounds = record {
   length = length;
   gone = gone;
   speed = speed;
@@ -53,6 +54,8 @@ runOf length gone speed phase master moving stopping = record {
   master = master;
   moving = moving;
   stopping = stopping;
+  ticks = ticks;
+  rounds = rounds;
 }
 
 -- The ticks of the dwell that are left, and the waiting start: 0, or its master and 1.
@@ -60,15 +63,14 @@ abbrev pub pauseOf : ℕ → ℕ → Pause
 pauseOf left waiting = record { left = left; waiting = waiting }
 
 -- Hot by its parts, in the order of the code.
-abbrev pub hotOf : Plan → Counters → Run → Wires → Pause → ℕ → ℕ → ℕ → Flags → Hot
-hotOf plan counters run wires pause inputs outputs watch flags = record {
+abbrev pub hotOf : Plan → Counters → Run → Wires → Pause → ℕ → ℕ → Flags → Hot
+hotOf plan counters run wires pause inputs watch flags = record {
   plan = plan;
   counters = counters;
   run = run;
   wires = wires;
   pause = pause;
   inputs = inputs;
-  outputs = outputs;
   watch = watch;
   flags = flags;
 }
@@ -83,50 +85,46 @@ controllerOf hot settings next line switch =
 -- What each axis counts.
 abbrev pub withCounters : Hot → Counters → Hot
 withCounters h x =
-    hotOf (h .plan) x (h .run) (h .wires) (h .pause) (h .inputs) (h .outputs) (h .watch) (h .flags)
+    hotOf (h .plan) x (h .run) (h .wires) (h .pause) (h .inputs) (h .watch) (h .flags)
 
 -- The latest move.
 abbrev pub withRun : Hot → Run → Hot
 withRun h x =
-    hotOf (h .plan) (h .counters) x (h .wires) (h .pause) (h .inputs) (h .outputs) (h .watch) (h .flags)
+    hotOf (h .plan) (h .counters) x (h .wires) (h .pause) (h .inputs) (h .watch) (h .flags)
 
 -- Whether the move is being stopped.
 abbrev pub withStopping : Hot → Bool → Hot
 withStopping h x =
     withRun h
-    (runOf (h .run .length) (h .run .gone) (h .run .speed) (h .run .phase) (h .run .master) (h .run .moving) x)
+    (runOf (h .run .length) (h .run .gone) (h .run .speed) (h .run .phase) (h .run .master) (h .run .moving) x
+    (h .run .ticks) (h .run .rounds))
 
 -- What the general outputs and each axis add to an output word.
 abbrev pub withWires : Hot → ℕ → Cells → Hot
 withWires h general cells =
     hotOf (h .plan) (h .counters) (h .run) (record { general = general; cells = cells }) (h .pause) (h .inputs)
-    (h .outputs) (h .watch) (h .flags)
+    (h .watch) (h .flags)
 
 -- The dwell: the ticks left, and the start that waits.
 abbrev pub withPause : Hot → ℕ → ℕ → Hot
 withPause h left waiting =
-    hotOf (h .plan) (h .counters) (h .run) (h .wires) (pauseOf left waiting) (h .inputs) (h .outputs) (h .watch)
+    hotOf (h .plan) (h .counters) (h .run) (h .wires) (pauseOf left waiting) (h .inputs) (h .watch)
     (h .flags)
 
 -- The last tick's input word.
 abbrev pub withInputs : Hot → ℕ → Hot
 withInputs h x =
-    hotOf (h .plan) (h .counters) (h .run) (h .wires) (h .pause) x (h .outputs) (h .watch) (h .flags)
-
--- The general outputs.
-abbrev pub withOutputs : Hot → ℕ → Hot
-withOutputs h x =
-    hotOf (h .plan) (h .counters) (h .run) (h .wires) (h .pause) (h .inputs) x (h .watch) (h .flags)
+    hotOf (h .plan) (h .counters) (h .run) (h .wires) (h .pause) x (h .watch) (h .flags)
 
 -- The watch count.
 abbrev pub withWatch : Hot → ℕ → Hot
 withWatch h x =
-    hotOf (h .plan) (h .counters) (h .run) (h .wires) (h .pause) (h .inputs) (h .outputs) x (h .flags)
+    hotOf (h .plan) (h .counters) (h .run) (h .wires) (h .pause) (h .inputs) x (h .flags)
 
 -- One flag, by the number of its status bit.
 abbrev pub withFlag : Hot → ℕ → Bool → Hot
 withFlag h number b =
-    hotOf (h .plan) (h .counters) (h .run) (h .wires) (h .pause) (h .inputs) (h .outputs) (h .watch)
+    hotOf (h .plan) (h .counters) (h .run) (h .wires) (h .pause) (h .inputs) (h .watch)
     (mark (h .flags) number b)
 
 -- ---- The controller with one part replaced

@@ -5,7 +5,7 @@ use lib.Dec.{eqb}
 use lib.ListN.{set}
 use Rattle.outputs.specs.Outputs.{generalOf}
 use Rattle.controller.specs.declared.state.Controller.{Controller}
-use Rattle.controller.specs.Inner.Parts.{withWires, withOutputs, withHot, withSetting, withNext, cellsOf}
+use Rattle.controller.specs.Inner.Parts.{withWires, withHot, withSetting, withNext, cellsOf}
 
 -- The next move's distance and direction of an axis.
 abbrev pub setAxisOf : Controller → ℕ → Bool → ℕ → Controller
@@ -25,4 +25,4 @@ setSettingOf c code v = cond (eqb code 12) (rewireOf (withSetting c code v)) (wi
 -- The general outputs, and what they add to an output word.
 abbrev pub setOutputsOf : Controller → ℕ → Controller
 setOutputsOf c v =
-    withHot c (withOutputs (withWires (c .hot) (generalOf (c .cold .switch) v) (c .hot .wires .cells)) v)
+    withHot c (withWires (c .hot) (generalOf (c .cold .switch) v) (c .hot .wires .cells))

@@ -59,8 +59,8 @@ begunGiven next h master cells =
       remainders = each (λ k. 0);
       positions = h .counters .positions;
     })
-    (runOf (getD (next .distances) master 0) 0 0 0 master true false)
-    (record { general = h .wires .general; cells = cells }) (pauseOf 0 0) (h .inputs) (h .outputs) (h .watch)
+    (runOf (getD (next .distances) master 0) 0 0 0 master true false 0 0)
+    (record { general = h .wires .general; cells = cells }) (pauseOf 0 0) (h .inputs) (h .watch)
     (mark (mark (h .flags) 3 false) 6 false)
 
 -- A move begins: travels and remainders 0, bits 3 and 6 cleared, no dwell, no waiting start.

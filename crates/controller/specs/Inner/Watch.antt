@@ -13,7 +13,6 @@ use Rattle.controller.specs.Inner.Parts.{
   withStopping,
   withWires,
   withInputs,
-  withOutputs,
   withWatch,
   withFlag,
   blockedIn,
@@ -30,10 +29,8 @@ isFullOf watch setting = leb watchMost watch && eqb (setting % 2) 1
 -- By the watch count, whether emergency is held, and whether the general outputs are cleared.
 abbrev pub takesGiven : Hot → ℕ → ℕ → Bool → Bool → Hot
 takesGiven h word watch emergency clears =
-    withOutputs
-    (withWires (withFlag (withWatch (withInputs h word) watch) 5 emergency) (cond clears 0 (h .wires .general))
-    (h .wires .cells))
-    (cond clears 0 (h .outputs))
+    withWires (withFlag (withWatch (withInputs h word) watch) 5 emergency) (cond clears 0 (h .wires .general))
+    (h .wires .cells)
 
 -- Inputs taken, the watch count raised, an active emergency held, the general outputs cleared at a full count.
 abbrev pub takesOf : Settings → Hot → ℕ → Hot

@@ -1,15 +1,9 @@
 -- The size of a number: its opposite is taken in 64 bits, where it fits. Assumes nothing.
 use borrow.Author.Needs.{needs}
 use mathlib.Core.Path.{sym, _∙_}
-use Rattle.session.proofs.SignLaws.{
-  cast-fits,
-  opposite-fits,
-  minus-size,
-  minus-is,
-  plus-size,
-  plus-is,
-  minus-passed,
-}
+use mir.Syntax.{w32}
+use Rattle.laws.specs.Axes.{isMinus}
+use Rattle.laws.proofs.Signs.{answered, cast-fits, opposite-fits, minus-cast, minus-is, plus-cast, plus-is}
 use Rattle.session.proofs.text.size.Statement.{statement}
 use Rattle.session.proofs.text.size.Tie as tie
 
@@ -25,8 +19,8 @@ sub-result c = let l = c .before .before in opposite-fits (l .args .z) (l .fits 
 cast-result : tie.Need-cast-result
 cast-result c =
     let l = c .before .before in
-    minus-size (l .args .z) (l .fits .z)
-    (sym (minus-passed (l .args .z) _ (l .fits .z) (c .before .is-minus .ensures)) ∙ c .if1 .taken)
+    minus-cast (l .args .z) (l .fits .z)
+    (sym (answered isMinus w32 (l .args .z) _ (l .fits .z) (c .before .is-minus .ensures)) ∙ c .if1 .taken)
 
 returns : tie.Need-returns
 returns c = let l = c .before .before in minus-is (l .args .z) (l .fits .z)
@@ -34,8 +28,8 @@ returns c = let l = c .before .before in minus-is (l .args .z) (l .fits .z)
 cast-result-2 : tie.Need-cast-result-2
 cast-result-2 c =
     let l = c .before .before in
-    plus-size (l .args .z) (l .fits .z)
-    (sym (minus-passed (l .args .z) _ (l .fits .z) (c .before .is-minus .ensures)) ∙ c .if1 .left)
+    plus-cast (l .args .z) (l .fits .z)
+    (sym (answered isMinus w32 (l .args .z) _ (l .fits .z) (c .before .is-minus .ensures)) ∙ c .if1 .left)
 
 returns-2 : tie.Need-returns-2
 returns-2 c = let l = c .before .before in plus-is (l .args .z) (l .fits .z)

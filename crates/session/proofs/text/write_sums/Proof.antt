@@ -4,14 +4,16 @@ use Prim.Native.Nat.{_-_, _*_, _≤_}
 use mathlib.Core.Path.{_≡_, refl, ap, _∙_}
 use native.Mathlib.Omega.{arith}
 use borrow.Author.Needs.{needs}
-use lib.IntN.{pos}
+use lib.IntN.{pos, natAbs}
 use lib.ListN.{length, getD}
 use mir.Syntax.{w32}
 use mir.Val.{SFits}
+use Rattle.laws.specs.Axes.{isMinus}
+use Rattle.laws.proofs.Signs.{answered}
 use Rattle.block.specs.Block.{over}
 use Rattle.session.specs.Text.{sumsText}
 use Rattle.session.proofs.TextLaws.{none-written, next-written, no-room, with-room}
-use Rattle.session.proofs.SignLaws.{elem-sfits, minus-passed, size-passed}
+use Rattle.session.proofs.SignLaws.{elem-sfits}
 use Rattle.session.proofs.text.write_sums.Statement.{statement}
 use Rattle.session.proofs.text.write_sums.Tie as tie
 
@@ -83,8 +85,8 @@ loop-again c =
           (c .before .before .before .before .size .result)
           (c .before .before .before .before .before .before .is-minus .result) (l .buf) (w .last .0)
           (l .inv .4 .0) (l .inv .4 .1)
-          (minus-passed _ _ f (c .before .before .before .before .before .before .is-minus .ensures))
-          (size-passed _ _ f (c .before .before .before .before .size .ensures))
+          (answered isMinus w32 _ _ f (c .before .before .before .before .before .before .is-minus .ensures))
+          (answered natAbs w32 _ _ f (c .before .before .before .before .size .ensures))
           (w .ensures .0) (w .ensures .1 .0),
     )
 

@@ -1,5 +1,6 @@
 -- `tick` meets its contract: each return, by the tests and the answers that led there. Assumes nothing.
 use borrow.Author.Needs.{needs}
+use mathlib.Core.Path.{_∙_}
 use Rattle.machine.specs.Calls.{state}
 use Rattle.machine.proofs.FitLaws.{fits}
 use Rattle.controller.proofs.EntryTickLaws.{
@@ -10,6 +11,7 @@ use Rattle.controller.proofs.EntryTickLaws.{
   stop-fits,
   run-was,
   run-wires,
+  run-travels,
   tick-is,
   tick-refused,
 }
@@ -17,11 +19,15 @@ use Rattle.controller.proofs.ReachLaws.{tick-answers}
 use Rattle.controller.proofs.state.Controller.tick.Statement.{statement}
 use Rattle.controller.proofs.state.Controller.tick.Tie as tie
 
+refused-requires : tie.Need-refused-requires
+refused-requires c κs = search needs
+
 returns : tie.Need-returns
 returns c =
-    let q = c .before in
+    let q = c .before .before in
     tick-answers (q .args .self) (q .pre) (q .args .word) _
-    (λ s h e. tick-refused (state s h) (q .args .word) (fits s h) (q .args .self) e (c .if1 .taken))
+    (λ s h e. c .refused .ensures
+    ∙ tick-refused (state s h) (q .args .word) (fits s h) (q .args .self) e (c .before .if1 .taken))
 
 takes-requires : tie.Need-takes-requires
 takes-requires c κs = search needs
@@ -65,9 +71,25 @@ rest-requires c κs =
     run-wires m (q .args .word) f (q .args .self) (r .made) _
     (run-was m (q .args .word) f (q .args .self) (r .made) _ _ es (v .runs .ensures))
 
+told-requires : tie.Need-told-requires
+told-requires c κs =
+    let v = c .before .before .before .before .before .before .before in
+    let p = v .before in
+    let w = p .before .before in
+    let t = w .before in
+    let q = t .before .before .before .before .before .before in
+    let r = q .pre in
+    let m = state (r .switch) (r .history) in
+    let f = fits (r .switch) (r .history) in
+    let et = took m (q .args .word) f (q .args .self) (r .made) _ (t .takes .ensures) in
+    let ew = waited-is m (q .args .word) f (q .args .self) (r .made) _ _ et (w .waits .ensures) in
+    let es = stop-is m (q .args .word) f (q .args .self) (r .made) _ _ ew (p .stops .ensures) in
+    run-travels m (q .args .word) f (q .args .self) (r .made) _
+    (run-was m (q .args .word) f (q .args .self) (r .made) _ _ es (v .runs .ensures))
+
 returns-2 : tie.Need-returns-2
 returns-2 c =
-    let z = c .before in
+    let z = c .before .before .before .before .before in
     let v = z .before .before .before in
     let p = v .before in
     let w = p .before .before in
@@ -80,16 +102,19 @@ returns-2 c =
     let ew = waited-is (state s h) (q .args .word) (fits s h) (q .args .self) e _ _ et (w .waits .ensures) in
     let es = stop-is (state s h) (q .args .word) (fits s h) (q .args .self) e _ _ ew (p .stops .ensures) in
     let er = run-was (state s h) (q .args .word) (fits s h) (q .args .self) e _ _ es (v .runs .ensures) in
-    tick-is (state s h) (q .args .word) (fits s h) (q .args .self) e _ _ _ (g .if1 .left) ew er (z .rest .ensures))
+    tick-is (state s h) (q .args .word) (fits s h) (q .args .self) e _ _ _ _ (g .if1 .left) ew er
+    (z .rest .ensures) (c .told .ensures))
 
 pub tick-spec : {M : Type 1} → statement M
 tick-spec =
     tie.close
     (tie.spec
+    refused-requires
     returns
     takes-requires
     waits-requires
     stops-requires
     runs-requires
     rest-requires
+    told-requires
     returns-2)

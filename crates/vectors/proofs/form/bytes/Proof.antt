@@ -3,14 +3,14 @@ use mathlib.Core.Path.{_≡_}
 use Prim.Native.Nat.{_-_, _≤_}
 use lib.ListN.{length}
 use borrow.Author.Needs.{needs}
-use Rattle.vectors.proofs.blocks.bytes_of.Statement.{statement}
-use Rattle.vectors.proofs.blocks.bytes_of.Tie as tie
+use Rattle.vectors.proofs.form.bytes.Statement.{statement}
+use Rattle.vectors.proofs.form.bytes.Tie as tie
 
 abbrev Inv-loop : tie.InvT-loop
-Inv-loop line bytes₀ i₀ bytes i = (i ≤ 16) × (16 ≡ length bytes)
+Inv-loop line from bytes₀ i₀ bytes i = (i ≤ 40) × (40 ≡ length bytes)
 
 abbrev μ-loop : tie.MeasureT-loop
-μ-loop line bytes₀ i₀ bytes i = 16 - i
+μ-loop line from bytes₀ i₀ bytes i = 40 - i
 
 loop-holds : tie.Need-loop-holds Inv-loop μ-loop
 loop-holds c = search needs
@@ -39,8 +39,8 @@ loop-again c = search needs
 returns : tie.Need-returns Inv-loop μ-loop
 returns c = search needs
 
-pub bytes-of-spec : {M : Type 1} → statement M
-bytes-of-spec =
+pub bytes-spec : {M : Type 1} → statement M
+bytes-spec =
     tie.close
     (tie.spec
     Inv-loop

@@ -1,0 +1,14 @@
+pub mod GroupLaws
+pub mod SignLaws
+pub mod WriteLaws
+pub mod ReadLaws
+pub mod RangeLaws
+pub mod SpellLaws
+pub mod JudgeLaws
+pub mod AnswerLaws
+pub mod SpellingLaws
+pub mod WrittenLaws
+pub mod FurtherLaws
+pub mod OneSpellingLaws
+pub mod RoundTripLaws
+pub mod Examples

@@ -1,0 +1,5 @@
+pub mod Numbers
+pub mod Entries
+pub mod Journal
+pub mod Inner
+pub mod Examples

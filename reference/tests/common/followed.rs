@@ -1,0 +1,174 @@
+//! A list of calls followed from its accepted lines and its answers alone: the latest move, positions and entries.
+
+use super::assert_shares;
+use reference::line::read_line;
+use reference::{Command, Entry, Machine, TickAnswer};
+
+/// The status bit of a running move.
+const MOVING: u32 = 2;
+
+/// The status bits of stops: by order, limit or watch; emergency held; by sensor.
+const STOPPED: u32 = 0x68;
+
+/// A move: its distances and master, and what the ticks since its start answered.
+#[derive(Clone, Default)]
+pub struct Move {
+    pub distances: [u32; 5],
+    pub master: usize,
+    pub stored: bool,
+    pub stop_begun: bool,
+    pub ticks: u64,
+    pub refused_ticks: u32,
+    pub signed_pulses: [i32; 5],
+}
+
+impl Move {
+    fn travels(&self) -> [u32; 5] {
+        self.signed_pulses.map(i32::unsigned_abs)
+    }
+
+    /// The entry of this move, where it has ended.
+    fn entry(&self) -> Entry {
+        let whole = self.travels()[self.master] == self.distances[self.master];
+        Entry { ticks: self.ticks, cause: u8::from(!whole), travels: self.signed_pulses }
+    }
+
+    /// Without a stop every axis ends at its distance, and all send their last pulse in one tick.
+    fn check_end(&self, last_pulses: [i8; 5]) {
+        if !self.stop_begun {
+            assert_eq!(self.travels(), self.distances);
+            assert_eq!(last_pulses.map(|pulse| pulse != 0), self.distances.map(|distance| distance > 0));
+        }
+    }
+}
+
+/// What a list has shown so far.
+#[derive(Default)]
+pub struct Followed {
+    line: Vec<u8>,
+    pub next_distances: [u32; 5],
+    dwell_ms: u32,
+    dwell: u32,
+    waiting: Option<u8>,
+    moving: bool,
+    latest: Option<Move>,
+    positions: [i32; 5],
+    pub starts: u32,
+    /// Every move that has ended, with its entry.
+    pub ended: Vec<(Move, Entry)>,
+}
+
+impl Followed {
+    fn begin(&mut self, master: u8, stored: bool) {
+        let (distances, master) = (self.next_distances, master as usize);
+        self.latest = Some(Move { distances, master, stored, ..Move::default() });
+        self.moving = true;
+        self.waiting = None;
+        self.dwell = 0;
+        self.starts += 1;
+    }
+
+    fn accepted(&mut self, command: Command) {
+        match command {
+            Command::Distance { axis, pulses, .. } => self.next_distances[axis as usize] = pulses,
+            Command::Dwell(ms) => self.dwell_ms = ms,
+            Command::ResetPositions => self.positions = [0; 5],
+            Command::Stop => self.order_9(),
+            Command::StartAfterDwell { master } if self.dwell > 0 => self.waiting = Some(master),
+            Command::Start { master } | Command::StartAfterDwell { master } => self.begin(master, false),
+            _ => {}
+        }
+    }
+
+    fn order_9(&mut self) {
+        self.waiting = None;
+        if let Some(latest) = self.latest.as_mut().filter(|_| self.moving) {
+            latest.stop_begun = true;
+        }
+    }
+
+    /// One received byte with so many bytes lent; its number.
+    pub fn byte(&mut self, machine: &mut Machine, byte: u8, lent: usize) -> u8 {
+        let number = machine.byte(byte, &mut vec![0; lent]).number;
+        if number == 2 {
+            return number;
+        }
+        if byte != 0x0D {
+            self.line.push(byte);
+            return number;
+        }
+        let line = std::mem::take(&mut self.line);
+        if number == 0 {
+            self.accepted(read_line(&line).unwrap().command);
+        }
+        self.check(machine);
+        number
+    }
+
+    /// The dwell counts down; a waiting start begins as it becomes 0, or fails by the tick's number.
+    fn count_dwell(&mut self, number: u8) {
+        let due = self.dwell == 1;
+        self.dwell = self.dwell.saturating_sub(1);
+        let tried = if due { self.waiting.take() } else { None };
+        match tried {
+            Some(master) if number == 0 => self.begin(master, true),
+            Some(_) => assert!((12..=17).contains(&number)),
+            None => assert_eq!(number, 0),
+        }
+    }
+
+    /// An accepted tick of a running move; the entry that it must answer.
+    fn move_tick(&mut self, pulses: [i8; 5], status: u32) -> Option<Entry> {
+        let latest = self.latest.as_mut().unwrap();
+        latest.ticks += 1;
+        latest.stop_begun |= status & STOPPED != 0;
+        for (sum, pulse) in latest.signed_pulses.iter_mut().zip(pulses) {
+            *sum += pulse as i32;
+        }
+        if status & MOVING != 0 {
+            return None;
+        }
+        latest.check_end(pulses);
+        self.moving = false;
+        self.dwell = 250 * self.dwell_ms;
+        self.ended.push((latest.clone(), latest.entry()));
+        Some(latest.entry())
+    }
+
+    /// A tick that is turned away answers no entry.
+    fn refused_tick(&mut self, answer: TickAnswer) {
+        assert_eq!(answer, TickAnswer { pulses: [0; 5], words: [0, 0], number: 3, entry: None });
+        if let Some(latest) = self.latest.as_mut().filter(|_| self.moving) {
+            latest.refused_ticks += 1;
+        }
+    }
+
+    /// One tick.
+    pub fn tick(&mut self, machine: &mut Machine, word: u32) {
+        let answer = machine.tick(word);
+        if word >= 0x0100_0000 {
+            return self.refused_tick(answer);
+        }
+        self.count_dwell(answer.number);
+        for (position, pulse) in self.positions.iter_mut().zip(answer.pulses) {
+            *position += pulse as i32;
+        }
+        let entry = if self.moving { self.move_tick(answer.pulses, machine.status()) } else { None };
+        assert_eq!(answer.entry, entry);
+        self.check(machine);
+    }
+
+    /// Status, travels, shares and positions are those that were followed.
+    fn check(&self, machine: &Machine) {
+        let bits = u32::from(self.moving || self.dwell > 0) | u32::from(self.moving) << 1;
+        assert_eq!(machine.status() & 3, bits);
+        assert_eq!(machine.positions(), self.positions);
+        match &self.latest {
+            Some(latest) => {
+                assert_eq!(machine.travels(), latest.travels());
+                assert_shares(machine.travels(), latest.distances, latest.master);
+            }
+            None => assert_eq!(machine.travels(), [0; 5]),
+        }
+    }
+}
