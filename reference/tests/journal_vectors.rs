@@ -1,14 +1,9 @@
 //! Stored vectors of the journal: lines and what they print, worked out by hand, and what the stored input reaches.
 
+mod common;
+use common::vectors::prints;
 use reference::make_journal::journal_text;
 use reference::vectors::answer;
-
-/// Lines and what each prints, without the line feeds.
-fn prints(pairs: &[(&str, &str)]) {
-    for (line, text) in pairs {
-        assert_eq!(answer(line.as_bytes()), format!("{text}\n"), "{line}");
-    }
-}
 
 #[test]
 fn writer() {

@@ -2,15 +2,9 @@
 
 mod common;
 use common::programs::printed;
+use common::vectors::prints;
 use reference::digest::mix;
 use reference::vectors::{answer, run};
-
-/// Lines and what each prints, without the line feeds.
-fn prints(pairs: &[(&str, &str)]) {
-    for (line, text) in pairs {
-        assert_eq!(answer(line.as_bytes()), format!("{text}\n"), "{line}");
-    }
-}
 
 #[test]
 fn writer() {
