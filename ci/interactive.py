@@ -18,7 +18,7 @@ from subprocess import PIPE
 
 import stored
 
-SESSIONS = ["protocol.in", "refusals.in", "readings.in", "stops.in", "dwell.in"]
+SESSIONS = ["protocol.in", "refusals.in", "readings.in", "stops.in", "dwell.in", "opening.in"]
 LIMIT = 20  # seconds for a reply
 PAUSE = 0.01  # seconds in which nothing may be printed
 STOPPED = b"bench: stopped, input or output failed\n"

@@ -105,7 +105,8 @@ typedef struct {
     uint8_t number;                 /* 0, 23 or 24; 0 with none found is the journal's end */
 } temixohuel_read_answer;
 
-/* A fresh controller. */
+/* A fresh controller. Its watch is 1 until a P B line sets another: a move is stopped once 1,000,000 ticks (4 s) pass
+   without a line that is accepted or turned away by 10 to 17. P0B0 turns it off. */
 temixohuel_power_answer temixohuel_power_on(uint8_t switch_);
 
 /* A received byte; a reply is written to the front of buf, and the bytes after it keep their values. */

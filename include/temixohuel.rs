@@ -95,7 +95,9 @@ pub struct Controller(Opaque);
 
 // Each call meets the library's one premise, since its controller is one that an earlier call answered.
 impl Controller {
-    /// A fresh controller, and 1 for a switch that there is none of, else 0.
+    /// A fresh controller, and 1 for a switch that there is none of, else 0. Its watch is 1
+    /// until a P B line sets another: a move is stopped once 1,000,000 ticks (4 s) pass without a line that is accepted
+    /// or turned away by 10 to 17. P0B0 turns it off.
     pub fn power_on(switch: u8) -> (Controller, u8) {
         let answer = unsafe { temixohuel_power_on(switch) };
         (Controller(answer.controller), answer.number)

@@ -22,6 +22,11 @@ impl Stand {
         Stand { observed: Observed::power_on(switch), ticks_left: ticks }
     }
 
+    /// As the bench programs begin.
+    fn opened(ticks: u32) -> Stand {
+        Stand { observed: Observed::opened(), ticks_left: ticks }
+    }
+
     /// One received byte with its lent buffer; its number.
     fn byte(&mut self, byte: u8, lent: &mut [u8]) -> u8 {
         self.observed.byte(byte, lent).number

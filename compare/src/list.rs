@@ -4,7 +4,7 @@ use crate::bench::Called;
 use crate::call::{Call, BYTE, TICKS};
 use crate::coverage::Coverage;
 use crate::journal::Journal;
-use crate::operator::Operator;
+use crate::operator::{Operator, POWER_ON_WATCH, WATCH_OFF};
 use crate::played::{Played, Readings};
 use crate::random::{part, Random};
 use crate::temixohuel::Controller;
@@ -33,11 +33,12 @@ pub fn plan(seed: u64, index: u64) -> List {
     List { seed, index, switch, ticks }
 }
 
-/// The calls of a list and what they meet.
+/// The calls of a list and what they meet. About half of the lists begin with the host's first line.
 pub fn calls_of(list: List) -> (Vec<Call>, Coverage) {
-    let random = Random::of_item(list.seed, part::CALLS, list.index);
+    let mut random = Random::of_item(list.seed, part::CALLS, list.index);
     let mut bench = Called::new(list.switch, list.ticks);
-    Operator::new(random).work(&mut bench);
+    let watch = if random.chance(50) && bench.turn_watch_off(&mut random) { WATCH_OFF } else { POWER_ON_WATCH };
+    Operator::new(random, watch).work(&mut bench);
     bench.finish()
 }
 

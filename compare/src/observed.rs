@@ -13,6 +13,14 @@ pub struct Observed {
     status: u32,
     /// A stop of the running move has begun.
     stop_begun: bool,
+    /// The characters of the line under way, and whether a watch line has been accepted since power-on.
+    line: Vec<u8>,
+    watch_set: bool,
+}
+
+/// Whether a line, if it is accepted, sets the watch.
+fn is_watch_line(line: &[u8]) -> bool {
+    line.first() == Some(&b'P') && matches!(line.get(2), Some(b'B' | b'b'))
 }
 
 impl Observed {
@@ -22,7 +30,12 @@ impl Observed {
         seen.number(number);
         seen.switches.mark(switch);
         let status = machine.status();
-        Observed { machine, seen, status, stop_begun: false }
+        Observed { machine, seen, status, stop_begun: false, line: Vec::new(), watch_set: false }
+    }
+
+    /// As the bench programs begin: the host's first line was accepted, and is not counted (paper 02, 2/14).
+    pub fn opened() -> Observed {
+        Observed { machine: reference::bench::opened(), watch_set: true, ..Observed::power_on(0) }
     }
 
     pub fn machine(&self) -> &Machine {
@@ -48,9 +61,16 @@ impl Observed {
         self.seen.reply_bytes += answer.len as u64;
         self.seen.lent.mark(lent.len().min(LONGEST_LENT) as u8);
         self.seen.number(answer.number);
-        if byte == reference::line::LINE_END && answer.number != 2 {
+        if answer.number == 2 {
+            return answer;
+        }
+        if byte == reference::line::LINE_END {
             self.seen.lines += 1;
+            let line = std::mem::take(&mut self.line);
+            self.watch_set |= answer.number == 0 && is_watch_line(&line);
             self.follow_line();
+        } else {
+            self.line.push(byte);
         }
         answer
     }
@@ -110,7 +130,8 @@ impl Observed {
     fn follow_causes(&mut self, before: u32) {
         let risen = self.status & !before;
         if risen & STOPPED != 0 {
-            self.seen.moves.cause(if self.status & BLOCKED != 0 { Cause::Limit } else { Cause::Watch });
+            let watch = if self.watch_set { Cause::Watch } else { Cause::PowerOnWatch };
+            self.seen.moves.cause(if self.status & BLOCKED != 0 { Cause::Limit } else { watch });
         }
         if risen & HELD != 0 {
             self.seen.moves.cause(Cause::Emergency);

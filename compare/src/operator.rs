@@ -16,6 +16,10 @@ mod under_way;
 
 const AXES: usize = 5;
 
+/// The watch that power-on sets, axes, and the one that the host's first line sets (paper 02, 2/14).
+pub const POWER_ON_WATCH: u32 = 1;
+pub const WATCH_OFF: u32 = 0;
+
 fn any_axis(random: &mut Random) -> usize {
     random.below(AXES as u32) as usize
 }
@@ -38,14 +42,14 @@ pub struct Operator {
 }
 
 impl Operator {
-    /// Operators differ: from small lively moves to moves of any length.
-    pub fn new(mut random: Random) -> Operator {
+    /// Operators differ: from small lively moves to moves of any length. The watch is the one that it finds set.
+    pub fn new(mut random: Random, watch: u32) -> Operator {
         let (usual_distance, usual_run) = random.pick(&[(12, 300), (300, 1_000), (2_000, 3_000), (LONGEST, 60_000)]);
         Operator {
             random,
             low_on: 0,
             high_on: 0,
-            watch: 0,
+            watch,
             dwell_ms: 0,
             usual_distance,
             usual_run,

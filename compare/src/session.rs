@@ -2,7 +2,7 @@
 
 use crate::bench::Typed;
 use crate::coverage::Coverage;
-use crate::operator::Operator;
+use crate::operator::{Operator, WATCH_OFF};
 use crate::program::{self, Places, END_OF_OUTPUT};
 use crate::random::{part, Random};
 use crate::shrink;
@@ -29,7 +29,7 @@ fn ticks_of(random: &mut Random, index: u64) -> u32 {
 pub fn text_of(session: Session) -> (Vec<u8>, Coverage) {
     let mut random = Random::of_item(session.seed, part::SESSION, session.index);
     let mut bench = Typed::new(ticks_of(&mut random, session.index));
-    let mut random = Operator::new(random).work(&mut bench);
+    let mut random = Operator::new(random, WATCH_OFF).work(&mut bench);
     bench.finish(&mut random)
 }
 

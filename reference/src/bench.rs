@@ -2,6 +2,7 @@
 
 use crate::digit::{digit_value, number_written};
 use crate::fields::split;
+use crate::host::watch_off_line;
 use crate::line::{with_line_end, LINE_END};
 use crate::machine::{front, Machine, LEAST_REPLY_BUFFER};
 use crate::streams::each_line;
@@ -86,9 +87,18 @@ fn command_line<W: Write>(machine: &mut Machine, line: &[u8], output: &mut W) ->
     Ok(())
 }
 
-/// Host end and program: switch 0, all lines of the input; the last line may lack its line feed.
-pub fn run<R: BufRead, W: Write>(input: R, output: &mut W) -> io::Result<()> {
+/// Host end and program: power-on with switch 0; paper 02, 2/14: the watch is turned off first, its reply dropped.
+pub fn opened() -> Machine {
     let (mut machine, _) = Machine::power_on(0);
+    for byte in watch_off_line() {
+        machine.byte(byte, &mut [0; LEAST_REPLY_BUFFER]);
+    }
+    machine
+}
+
+/// Host end and program: all lines of the input, none read before the opening; the last may lack its line feed.
+pub fn run<R: BufRead, W: Write>(input: R, output: &mut W) -> io::Result<()> {
+    let mut machine = opened();
     each_line(input, |line| {
         if line.first() == Some(&b'T') {
             tick_line(&mut machine, line, output)

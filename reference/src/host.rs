@@ -1,4 +1,4 @@
-//! Host end: writer of a full line, reader of one reply block, master picker.
+//! Host end: writer of a full line, reader of one reply block, master picker, and the line that turns the watch off.
 
 mod reader;
 mod writer;
@@ -15,4 +15,10 @@ pub fn pick_master(distances: [u32; 5]) -> u8 {
         }
     }
     master as u8
+}
+
+/// Paper 02, 2/14: the line that host tools and the bench program send once after each power-on, with its 0D. It is
+/// not the writer's line of that command, which is a full one.
+pub fn watch_off_line() -> [u8; 5] {
+    *b"P0B0\x0D"
 }

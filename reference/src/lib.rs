@@ -1,7 +1,7 @@
 //! Reference of the five-pump blending controller, written from paper 01 and, where that is silent, the manual; the
-//! journal from paper 02, 1/14.
+//! journal from paper 02, 1/14, and the watch of power-on from 2/14.
 //!
-//! Each rule is a small function; its comment names the section of paper 01 that holds the rule, or the journal.
+//! Each rule is a small function; its comment names the section of paper 01 that holds the rule, the journal, or 2/14.
 
 #![forbid(unsafe_code)]
 
@@ -31,6 +31,6 @@ pub mod vectors;
 
 pub use command::{Command, CommandValue};
 pub use figures::{figures_of, Figures, Setting};
-pub use host::{pick_master, read_block, write_line, Block, Reading};
+pub use host::{pick_master, read_block, watch_off_line, write_line, Block, Reading};
 pub use journal::Entry;
 pub use machine::{front, ByteAnswer, Machine, TickAnswer};

@@ -95,7 +95,7 @@ pub struct Machine {
 }
 
 impl Machine {
-    /// Ramp: power-on has V 10,000, a 16, all else 0, watch off.
+    /// Ramp: power-on has V 10,000, a 16, all else 0; paper 02, 2/14: the watch is 1 (axes) instead of off.
     fn fresh(switch: u8) -> Machine {
         Machine {
             switch,
@@ -105,7 +105,7 @@ impl Machine {
             speed: 10_000,
             slope: 16,
             dwell_ms: 0,
-            watch: 0,
+            watch: 1,
             polarity: 0,
             general_outputs: 0,
             latest: Distances::default(),

@@ -14,10 +14,12 @@ mod refused_calls;
 mod refused_lines;
 mod refused_starts;
 mod sensor;
+mod silence;
 mod stops_by_order;
 mod stored_starts;
 mod switches;
 mod watch;
+mod watched;
 
 use crate::text::Text;
 
@@ -47,6 +49,8 @@ pub fn lists_text() -> String {
     crooked::crooked_moves(&mut text);
     extremes::extremes(&mut text);
     watch::watch(&mut text);
+    watched::watched(&mut text);
+    silence::silence(&mut text);
     entries::entries(&mut text);
     drawn::drawn_lists(&mut text);
     other_forms::other_forms(&mut text);

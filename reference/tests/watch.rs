@@ -6,10 +6,14 @@ use reference::Machine;
 
 const FULL: u32 = 1_000_000;
 
+/// Every watch, after the one with neither of its bits: each bit is set or cleared, whatever power-on has.
+const WATCHES: [[&str; 2]; 4] = [["P0B3", "P0B0"], ["P0B2", "P0B1"], ["P0B1", "P0B2"], ["P0B0", "P0B3"]];
+
 /// General outputs all 1, watch as given, watch count 0.
-fn with_outputs(watch: &str) -> Machine {
+fn with_outputs(watch: &[&str]) -> Machine {
     let mut machine = on();
-    accept(&mut machine, &["W0FFFFFF", watch]);
+    accept(&mut machine, &["W0FFFFFF"]);
+    accept(&mut machine, watch);
     machine
 }
 
@@ -19,7 +23,7 @@ fn outputs_on(machine: &mut Machine) -> bool {
 
 #[test]
 fn watch_bit_1_clears_the_general_outputs() {
-    for (watch, cleared) in [("P0B0", false), ("P0B1", false), ("P0B2", true), ("P0B3", true)] {
+    for (watch, cleared) in WATCHES.iter().zip([false, false, true, true]) {
         let mut machine = with_outputs(watch);
         for _ in 0..FULL - 1 {
             assert_eq!(machine.tick(0).words, [0xFFFC00; 2]);
@@ -34,9 +38,9 @@ fn watch_bit_1_clears_the_general_outputs() {
 
 #[test]
 fn watch_bit_0_alone_stops_moves() {
-    for (watch, stopped) in [("P0B0", false), ("P0B1", true), ("P0B2", false), ("P0B3", true)] {
-        let mut machine = on();
-        accept(&mut machine, &["P007FFFF", "P0800001", watch, "Q080"]);
+    for (watch, stopped) in WATCHES.iter().zip([false, true, false, true]) {
+        let mut machine = with_outputs(watch);
+        accept(&mut machine, &["P007FFFF", "P0800001", "Q080"]);
         assert_eq!(status_after(&mut machine, FULL - 1, 0), 3);
         assert_eq!(status_after(&mut machine, 1, 0) & 8 != 0, stopped);
     }
@@ -44,7 +48,7 @@ fn watch_bit_0_alone_stops_moves() {
 
 /// After the line, with the count one short of full before it, are the outputs kept in the next tick?
 fn kept_after(text: &[u8]) -> bool {
-    let mut machine = with_outputs("P0B2");
+    let mut machine = with_outputs(&["P0B2"]);
     accept(&mut machine, &["P0000001", "P0100002"]);
     ticks(&mut machine, FULL - 1, 0);
     assert!(!outputs_on(&mut machine));
@@ -67,7 +71,7 @@ fn which_lines_zero_the_count() {
 
 #[test]
 fn a_refused_byte_and_a_half_line_do_not_zero_the_count() {
-    let mut machine = with_outputs("P0B2");
+    let mut machine = with_outputs(&["P0B2"]);
     ticks(&mut machine, FULL - 1, 0);
     for byte in *b"Q06" {
         machine.byte(byte, &mut [0; 120]);
@@ -80,7 +84,7 @@ fn a_refused_byte_and_a_half_line_do_not_zero_the_count() {
 
 #[test]
 fn a_refused_tick_does_not_raise_the_count() {
-    let mut machine = with_outputs("P0B2");
+    let mut machine = with_outputs(&["P0B2"]);
     ticks(&mut machine, FULL - 2, 0);
     for _ in 0..10 {
         assert_eq!(machine.tick(u32::MAX).number, 3);

@@ -6,6 +6,7 @@ use crate::coverage::Coverage;
 use crate::random::Random;
 use reference::line::LINE_END;
 use reference::machine::{INPUT_WORD_END, LEAST_REPLY_BUFFER};
+use reference::watch_off_line;
 
 pub struct Called {
     stand: Stand,
@@ -41,6 +42,11 @@ impl Called {
         }
         let lent = if random.chance(70) { least } else { random.between(least, LONGEST_LENT as u32) };
         self.give(byte, lent as usize)
+    }
+
+    /// The host's first line (paper 02, 2/14); whether it is accepted.
+    pub fn turn_watch_off(&mut self, random: &mut Random) -> bool {
+        watch_off_line().map(|byte| self.receive(random, byte)) == [0; 5]
     }
 
     fn readings(&mut self) {

@@ -13,9 +13,9 @@ pub struct Typed {
 }
 
 impl Typed {
-    /// The bench programs have switch 0.
+    /// The bench programs have switch 0, and have sent the host's first line before any text.
     pub fn new(ticks: u32) -> Typed {
-        Typed { stand: Stand::new(0, ticks), text: Vec::new() }
+        Typed { stand: Stand::opened(ticks), text: Vec::new() }
     }
 
     /// The text of the session, whose last line may lack its line feed, and what it meets.

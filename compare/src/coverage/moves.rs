@@ -9,12 +9,15 @@ use std::fmt;
 pub enum Cause {
     Order,
     Limit,
+    /// Set by a line.
     Watch,
+    /// As power-on set it.
+    PowerOnWatch,
     Emergency,
     Sensor,
 }
 
-const CAUSE_NAMES: [&str; 5] = ["order", "limit", "watch", "emergency", "sensor"];
+const CAUSE_NAMES: [&str; 6] = ["order", "limit", "watch", "watch of power-on", "emergency", "sensor"];
 
 #[derive(Clone, Debug, Default)]
 pub struct Moves {
@@ -27,7 +30,7 @@ pub struct Moves {
     whole_in_stop: u64,
     /// Entries of cause 1.
     stopped: u64,
-    causes: [u64; 5],
+    causes: [u64; 6],
 }
 
 impl Moves {

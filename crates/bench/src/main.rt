@@ -99,8 +99,8 @@ fn finish(s: Session) -> bool
     io::write_all(STDOUT_FILENO, block::front(&buf, taken.length))
 }
 
-// Power-on with switch 0, the whole input, and its end. A program has no exit status of its own, so a word on standard
-// error says that it stopped before the end.
+// Power-on with switch 0 and the host's first line, the whole input, and its end. A program has no exit status of its
+// own, so a word on standard error says that it stopped before the end.
 fn main() {
     let start = Session::new();
     let turn = read_all(start);

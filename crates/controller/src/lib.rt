@@ -6,6 +6,7 @@ ghost use Rattle.block.specs.Block.{frontOf};
 ghost use Rattle.machine.specs.Demand.{Demand3};
 ghost use Rattle.machine.specs.Journal.{Journal};
 ghost use Rattle.machine.specs.Marked.{Marked};
+ghost use Rattle.machine.specs.Watch.{Watch};
 ghost use Rattle.witness.specs.Entries.{EntryWitness};
 ghost use Rattle.witness.specs.Witness.{Witness};
 ghost use Rattle.controller.specs.Held.{heldPower};
@@ -46,7 +47,8 @@ const LAST_WORD: u32 = 16777215;
 // Power-on. The theorem about every list of calls, the marked table and computed lists stand here as promises, so that
 // the gate keeps them: they speak of the machine whose held values every entry answers. The same theorem over the
 // answers of these entries themselves stands beside it (`Demand3Answers`). So do the two about the journal's entries
-// (`Journal`, `JournalAnswers`), with computed ones (`EntryWitness`).
+// (`Journal`, `JournalAnswers`), with computed ones (`EntryWitness`), and the one about the watch that is on from here
+// (`Watch`).
 pub fn power_on(switch: u8) -> PowerOn
     ensures { λ r. ⌜ r ≡ heldPower switch ⌝ }
     ensures { λ _. ⌜ Demand3 ⌝ }
@@ -56,6 +58,7 @@ pub fn power_on(switch: u8) -> PowerOn
     ensures { λ _. ⌜ Journal ⌝ }
     ensures { λ _. ⌜ JournalAnswers ⌝ }
     ensures { λ _. ⌜ EntryWitness ⌝ }
+    ensures { λ _. ⌜ Watch ⌝ }
     ensures { λ r. ⌜ Reachable (r .controller) ⌝ }
 {
     if power::is_bad(switch) {

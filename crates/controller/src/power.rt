@@ -25,7 +25,7 @@ pub(crate) fn is_bad(switch: u8) -> bool
     switch == 12
 }
 
-// V 10,000, a 16, all else 0, watch off.
+// V 10,000, a 16, watch 1 (axes; paper 02, 2/14), all else 0.
 fn fresh_settings() -> Settings
     ensures { λ r. ⌜ r ≡ freshSettingsOf ⌝ }
 {
@@ -36,7 +36,7 @@ fn fresh_settings() -> Settings
         polarity: 0,
         low: 0,
         high: 0,
-        watch: 0,
+        watch: 1,
     }
 }
 

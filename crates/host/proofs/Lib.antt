@@ -6,5 +6,6 @@ pub mod Lines
 pub mod RoundTrip
 pub mod MachineTrip
 pub mod LineTrips
+pub mod WatchLaws
 pub mod MasterLaws
 pub mod Examples

@@ -20,20 +20,16 @@ use Rattle.machine.specs.Calls.{Call, byte, after, run, state, from}
 use Rattle.machine.proofs.UnalteredLaws.{number-line, does-unaltered, turned-unaltered}
 use Rattle.host.specs.declared.Request.{Request}
 use Rattle.host.specs.Writer.{digitsOf, hasLine, lineOf}
-use Rattle.host.specs.RoundTrip.{callsOf, answersTo, gathers, heardAs, answerTo, Obeys}
+use Rattle.host.specs.RoundTrip.{callsOf, Roomy, answersTo, gathers, heardAs, answerTo, Obeys}
 use Rattle.host.proofs.Lines.{NoEnd, request-lined}
 
 -- ---- characters, then the 0D
-
--- Each of the first n buffers has room for any reply.
-abbrev Roomy : (ℕ → List ℕ) → ℕ → Type 0
-Roomy lent n = (i : ℕ) → i < n → 120 ≤ length (lent i)
 
 -- What m answers to a character, and to the 0D, after the characters l.
 abbrev more : Machine → List ℕ → ℕ → ByteAnswer
 more m l c = record { machine = withLine m (l ++ (c ∷ [])); reply = []; number = 0 }
 
-abbrev endOf : Machine → List ℕ → ByteAnswer
+abbrev pub endOf : Machine → List ℕ → ByteAnswer
 endOf m l = answered (withLine m l) 13 (outcomeOf (withLine m l) (heardLine l))
 
 module _ (o m : Machine) where
@@ -54,11 +50,11 @@ module _ (o m : Machine) where
       (le-ltb (length buffer) 120 h)
 
   -- After calls that left the characters l, characters and a 0D: the answers, and the machine that they leave.
-  record Answers (h : List Call) (l cs : List ℕ) (lent : ℕ → List ℕ) : Type 0 where
-    answers : answersTo o h lent (cs ++ (13 ∷ [])) ≡ gathers m l cs ++ (endOf m (l ++ cs) ∷ [])
-    left : from o (callsOf lent (cs ++ (13 ∷ [])) h) ≡ endOf m (l ++ cs) .machine
+  pub record Answers (h : List Call) (l cs : List ℕ) (lent : ℕ → List ℕ) : Type 0 where
+    pub answers : answersTo o h lent (cs ++ (13 ∷ [])) ≡ gathers m l cs ++ (endOf m (l ++ cs) ∷ [])
+    pub left : from o (callsOf lent (cs ++ (13 ∷ [])) h) ≡ endOf m (l ++ cs) .machine
 
-  line-answers : (h : List Call) (l cs : List ℕ) (lent : ℕ → List ℕ) → from o h ≡ withLine m l → NoEnd cs
+  pub line-answers : (h : List Call) (l cs : List ℕ) (lent : ℕ → List ℕ) → from o h ≡ withLine m l → NoEnd cs
       → Roomy lent (suc (length cs)) → Answers h l cs lent
   unfolding run
   line-answers h l [] lent e q room =
@@ -87,7 +83,7 @@ module _ (m : Machine) (r : Request) where
       cond (eqb n 0) (accepted (r .command) (digitsOf (r .command)) (r .silent) (r .ident))
       (refused n (r .silent) (r .ident))
 
-  end-answer : (l : List ℕ) → heardLine l ≡ heardAs r (digitsOf (r .command)) → endOf m l ≡ answerTo m r
+  pub end-answer : (l : List ℕ) → heardLine l ≡ heardAs r (digitsOf (r .command)) → endOf m l ≡ answerTo m r
   end-answer l e =
       ap (λ (h : Heard). answered (withLine m l) 13 (outcomeOf (withLine m l) h)) e
       ∙ ap (λ (n : ℕ). answered (withLine m l) 13 (comes n)) (number-line m l (r .command))

@@ -1,3 +1,4 @@
 pub mod Writer
 pub mod RoundTrip
+pub mod Watch
 pub mod Master

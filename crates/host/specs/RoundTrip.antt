@@ -40,6 +40,10 @@ abbrev pub callsOf : (ℕ → List ℕ) → List ℕ → List Call → List Call
 callsOf lent [] h = h
 callsOf lent (b ∷ bs) h = callsOf (λ i. lent (suc i)) bs (byte b (lent 0) ∷ h)
 
+-- Each of the first n buffers has room for any reply.
+abbrev pub Roomy : (ℕ → List ℕ) → ℕ → Type 0
+Roomy lent n = (i : ℕ) → i < n → 120 ≤ length (lent i)
+
 -- What the machine m answers to each, after the calls h.
 abbrev pub answersTo : Machine → List Call → (ℕ → List ℕ) → List ℕ → List ByteAnswer
 answersTo m h lent [] = []

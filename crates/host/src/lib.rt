@@ -1,5 +1,5 @@
 // The host end (paper 01, "Host end and program"): the writer from a command value to a full line, and the master
-// picker.
+// picker; the line that host tools send first (paper 02, 2/14).
 // Every public function is total: it has no premise, and states its result and the whole buffer for every input.
 // Assumes nothing.
 ghost use Prim.Native.Nat.{_≤_};
@@ -17,6 +17,7 @@ ghost use Rattle.host.specs.Writer.{
   bufferOf,
 };
 ghost use Rattle.host.specs.RoundTrip.{LineTrip, LineBack};
+ghost use Rattle.host.specs.Watch.{watchOff, WatchOff};
 use block::Block;
 use digits::END;
 use digits::Ident;
@@ -119,6 +120,15 @@ pub fn write_line(buf: &mut [u8], request: Request) -> Written
         ident,
     };
     Written::Length(block::write_block(buf, 0, block))
+}
+
+// P0B0 and 0D: what host tools send first, once after each power-on, and drop the reply of (paper 02, 2/14). No other
+// entry of the host adds it.
+pub fn watch_off() -> [u8; 5]
+    ensures { λ r. ⌜ r ≡ watchOff ⌝ }
+    ensures { λ _. ⌜ WatchOff ⌝ }
+{
+    [b'P', b'0', b'B', b'0', END]
 }
 
 // Whether no axis is longer than this length.

@@ -1,4 +1,4 @@
--- Status bit 1 is the move's own flag, and small laws of Booleans. Assumes nothing.
+-- Status bit 1 is the move's own flag, bit 3 the stop's. Assumes nothing.
 use Prim.Native.Nat.{ℕ, _+_, _*_, _/_, _%_, _≤_, _<_}
 use mathlib.Core.Bool.{Bool, true, false, _||_}
 use mathlib.Core.Path.{_≡_, refl}
@@ -7,12 +7,13 @@ use borrow.Author.Tests.{eq-eqb, ne-eqb}
 use lib.Dec.{ltb}
 use Rattle.machine.specs.State.{Machine}
 use Rattle.laws.specs.Bits.{bit, weight}
-use Rattle.machine.specs.Stops.{blocked, current}
+use Rattle.machine.specs.Stops.{blocked, current, status}
 use Rattle.machine.specs.Roles.{moves}
 
-fourfold : (b : Bool) (n m : ℕ) → m ≡ 4 * n → weight b m ≡ 4 * weight b n
-fourfold true n m e = e
-fourfold false n m e = refl
+-- What a flag weighs is so many times what it weighs less.
+times : (k : ℕ) (b : Bool) (n m : ℕ) → m ≡ k * n → weight b m ≡ k * weight b n
+times k true n m e = e
+times k false n m e = omega arith
 
 is-high : (n : ℕ) → 2 ≤ n % 4 → bit n 1 ≡ true
 is-high n h = eq-eqb (n / 2 % 2) 1 (omega arith)
@@ -25,19 +26,19 @@ second-bit : (a b c d e f g : Bool)
 second-bit a b c d e f g = by-cases a b
   where
     c4 : weight c 4 ≡ 4 * weight c 1
-    c4 = fourfold c 1 4 refl
+    c4 = times 4 c 1 4 refl
 
     d4 : weight d 8 ≡ 4 * weight d 2
-    d4 = fourfold d 2 8 refl
+    d4 = times 4 d 2 8 refl
 
     e4 : weight e 16 ≡ 4 * weight e 4
-    e4 = fourfold e 4 16 refl
+    e4 = times 4 e 4 16 refl
 
     f4 : weight f 32 ≡ 4 * weight f 8
-    f4 = fourfold f 8 32 refl
+    f4 = times 4 f 8 32 refl
 
     g4 : weight g 64 ≡ 4 * weight g 16
-    g4 = fourfold g 16 64 refl
+    g4 = times 4 g 16 64 refl
 
     by-cases : (a b : Bool)
         → bit (weight a 1 + weight b 2 + weight c 4 + weight d 8 + weight e 16 + weight f 32 + weight g 64) 1 ≡ b
@@ -59,3 +60,25 @@ pub status-moving : (m : Machine) → moves m ≡ m .move .moving
 status-moving m =
     second-bit (m .move .moving || ltb 0 (m .pause .left)) (m .move .moving) (m .flags .wrongMaster) (m .flags .stopped)
     (blocked m (current m)) (m .flags .emergency) (m .flags .sensed)
+
+at-most : (b : Bool) (n : ℕ) → weight b n ≤ n
+at-most true n = omega arith
+at-most false n = omega arith
+
+fourth-bit : (a b c e f g : Bool)
+    → bit (weight a 1 + weight b 2 + weight c 4 + 8 + weight e 16 + weight f 32 + weight g 64) 3 ≡ true
+fourth-bit a b c e f g =
+    let l = at-most a 1 in
+    let m = at-most b 2 in
+    let n = at-most c 4 in
+    let x = times 16 e 1 16 refl in
+    let y = times 16 f 2 32 refl in
+    let z = times 16 g 4 64 refl in
+    eq-eqb ((weight a 1 + weight b 2 + weight c 4 + 8 + weight e 16 + weight f 32 + weight g 64) / 8 % 2) 1
+    (omega (arith, l, m, n, x, y, z))
+
+-- Status bit 3 is set where a stop by order, limit or watch was marked.
+pub status-stopped : (m : Machine) → m .flags .stopped ≡ true → bit (status m) 3 ≡ true
+status-stopped m e =
+    rw e (fourth-bit (m .move .moving || ltb 0 (m .pause .left)) (m .move .moving) (m .flags .wrongMaster)
+    (blocked m (current m)) (m .flags .emergency) (m .flags .sensed))

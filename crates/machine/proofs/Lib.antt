@@ -1,5 +1,6 @@
 pub mod BitLaws
 pub mod UnalteredLaws
+pub mod Outcomes
 pub mod ShareLaws
 pub mod Runs
 pub mod PulseLaws
@@ -26,5 +27,7 @@ pub mod DemandLaws
 pub mod MovedLaws
 pub mod JournalLaws
 pub mod TakenLaws
+pub mod WatchStageLaws
+pub mod WatchLaws
 pub mod MarkedLaws
 pub mod FlaggedLaws

@@ -4,28 +4,21 @@ use mathlib.Core.Bool.{Bool, true, false, cond, _&&_}
 use mathlib.Core.List.{List}
 use mathlib.Core.Path.{_≡_, refl, sym, subst}
 use native.Mathlib.Omega.{arith}
-use borrow.Author.Tests.{eqb-true}
-use lib.Dec.{ltb, leb, eqb}
+use lib.Dec.{leb, eqb}
 use lib.IntN.{pos}
-use lib.ListN.{length}
 use Rattle.laws.proofs.Tests.{and-true}
-use Rattle.laws.proofs.Pick.{by-bool}
 use Rattle.digits.specs.declared.Ident.{Ident}
 use Rattle.line.specs.declared.command.Command.{Command}
 use Rattle.line.specs.declared.command.Command.the-variants as C
 use Rattle.line.proofs.Ranges.{by-code}
-use Rattle.line.specs.declared.Judged.{Judged}
-use Rattle.line.specs.declared.Judged.the-variants.{Accepted, Refused}
-use Rattle.receiver.specs.declared.Heard.{Heard}
-use Rattle.receiver.specs.declared.Heard.the-variants.{Character, Line}
-use Rattle.receiver.specs.Receiver.{receive}
 use Rattle.machine.specs.State.{Machine, withMove, withWatch, withFlags}
 use Rattle.machine.specs.Stops.{stopping, marks}
 use Rattle.machine.specs.Starts.{startNumber, begun, notes}
 use Rattle.machine.specs.Commands.{number, does, stores, drops, keepsStart, obeys}
-use Rattle.machine.specs.Steps.{Outcome, refused, decided, outcomeOf, outcome, answered, heardBy, untried, began}
+use Rattle.machine.specs.Steps.{Outcome, refused, outcome, answered, heardBy, untried, began}
 use Rattle.machine.specs.Roles.{other, dwellLine, startLine, stopOrder, roleOf, roleBy, startBy, stopBy}
 use Rattle.machine.proofs.BitLaws.{status-moving}
+use Rattle.machine.proofs.Outcomes.{by-outcome}
 use Rattle.machine.proofs.Runs.{Good}
 use Rattle.machine.proofs.CalledLaws.{Called, called-same}
 use Rattle.machine.proofs.ReadyLaws.{passed, ready}
@@ -111,20 +104,9 @@ called-refused m b n silent ident g = when (leb 10 n)
     when true = called-same m _ false g (record { next = refl; move = refl; position = refl })
     when false = called-same m _ false g (record { next = refl; move = refl; position = refl })
 
-called-decided : (m : Machine) (b : ℕ) (silent : Bool) (ident : Ident) (j : Judged) → Good (m .move)
-    → Byte m b (decided m silent ident j)
-called-decided m b silent ident (Refused n) g = called-refused m b n silent ident g
-called-decided m b silent ident (Accepted c digits) g =
-    by-bool (Byte m b) (eqb (number m c) 0) _ _
-    (λ e. called-accepted m b c g (eqb-true (number m c) 0 e))
-    (λ e. called-refused m b (number m c) silent ident g)
-
-called-heard : (m : Machine) (b : ℕ) (h : Heard) → Good (m .move) → Byte m b (outcomeOf m h)
-called-heard m b Character g = called-same m _ false g (record { next = refl; move = refl; position = refl })
-called-heard m b (Line silent ident j) g = called-decided m b silent ident j g
-
 pub called-byte : (m : Machine) (b : ℕ) (buffer : List ℕ) → Good (m .move) → Byte m b (outcome m b buffer)
 called-byte m b buffer g =
-    by-bool (Byte m b) (ltb (length buffer) 120) _ _
-    (λ e. called-same m _ false g (record { next = refl; move = refl; position = refl }))
-    (λ e. called-heard m b (receive (m .line) b .heard) g)
+    by-outcome m (Byte m b) (called-same m _ false g (record { next = refl; move = refl; position = refl }))
+    (called-same m _ false g (record { next = refl; move = refl; position = refl }))
+    (λ n silent ident. called-refused m b n silent ident g)
+    (λ c digits silent ident e. called-accepted m b c g e) b buffer

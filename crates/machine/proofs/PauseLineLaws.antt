@@ -3,34 +3,18 @@ use Prim.Native.Nat.{ℕ}
 use mathlib.Core.Bool.{Bool, true, false, cond}
 use mathlib.Core.List.{List}
 use mathlib.Core.Path.{_≡_, refl}
-use lib.Dec.{ltb, leb, eqb}
-use lib.ListN.{length}
+use lib.Dec.{leb, eqb}
 use Rattle.laws.proofs.Pick.{by-bool}
 use Rattle.digits.specs.declared.Ident.{Ident}
 use Rattle.line.specs.declared.command.Command.{Command}
 use Rattle.line.specs.declared.command.Command.the-variants as C
 use Rattle.line.proofs.Ranges.{by-code}
-use Rattle.line.specs.declared.Judged.{Judged}
-use Rattle.line.specs.declared.Judged.the-variants.{Accepted, Refused}
-use Rattle.receiver.specs.declared.Heard.{Heard}
-use Rattle.receiver.specs.declared.Heard.the-variants.{Character, Line}
-use Rattle.receiver.specs.Receiver.{receive}
 use Rattle.machine.specs.State.{Machine, Waiting, none, start, Pause}
 use Rattle.machine.specs.Starts.{begun}
-use Rattle.machine.specs.Commands.{number, does, stores, drops, keepsStart, obeys}
-use Rattle.machine.specs.Steps.{
-  Outcome,
-  refused,
-  decided,
-  outcomeOf,
-  outcome,
-  answered,
-  heardBy,
-  Tried,
-  untried,
-  began,
-}
+use Rattle.machine.specs.Commands.{does, stores, drops, keepsStart, obeys}
+use Rattle.machine.specs.Steps.{Outcome, refused, outcome, answered, heardBy, Tried, untried, began}
 use Rattle.machine.specs.Roles.{other, dwellLine, roleOf, roleBy, begins, startBy, waitingBy, dwellBy}
+use Rattle.machine.proofs.Outcomes.{by-outcome}
 
 -- What a line leaves of the pause: a start that takes effect ends the dwell.
 abbrev pauseBy : Pause → Tried → Waiting → Pause
@@ -92,19 +76,8 @@ refused-pause m b n silent ident = record {
   dwell = by-bool (λ (a : Machine). a .settings .dwell ≡ m .settings .dwell) (leb 10 n) _ _ (λ e. refl) (λ e. refl);
 }
 
-decided-pause : (m : Machine) (b : ℕ) (silent : Bool) (ident : Ident) (j : Judged) → Byte m b (decided m silent ident j)
-decided-pause m b silent ident (Refused n) = refused-pause m b n silent ident
-decided-pause m b silent ident (Accepted c digits) =
-    by-bool (Byte m b) (eqb (number m c) 0) _ _
-    (λ e. record { pause = does-pause m b c; dwell = does-dwell (heardBy m b) c })
-    (λ e. refused-pause m b (number m c) silent ident)
-
-heard-pause : (m : Machine) (b : ℕ) (h : Heard) → Byte m b (outcomeOf m h)
-heard-pause m b Character = record { pause = refl; dwell = refl }
-heard-pause m b (Line silent ident j) = decided-pause m b silent ident j
-
 pub byte-pause : (m : Machine) (b : ℕ) (buffer : List ℕ) → Byte m b (outcome m b buffer)
-byte-pause m b buffer =
-    by-bool (Byte m b) (ltb (length buffer) 120) _ _
-    (λ e. record { pause = refl; dwell = refl })
-    (λ e. heard-pause m b (receive (m .line) b .heard))
+byte-pause m b =
+    by-outcome m (Byte m b) (record { pause = refl; dwell = refl }) (record { pause = refl; dwell = refl })
+    (refused-pause m b)
+    (λ c digits silent ident e. record { pause = does-pause m b c; dwell = does-dwell (heardBy m b) c }) b

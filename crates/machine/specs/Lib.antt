@@ -13,5 +13,6 @@ pub mod Roles
 pub mod List
 pub mod Demand
 pub mod Journal
+pub mod Watch
 pub mod Marked
 pub mod Flagged

@@ -22,8 +22,8 @@ use Rattle.machine.specs.Commands.{number, does, drops, turned}
 use Rattle.machine.specs.Replies.{replyTo, refusal, unlessSilent}
 use Rattle.machine.specs.Outputs.{word}
 
--- ---- Power-on: V 10,000, a 16, all else 0, watch off. 1: a switch over 15 or equal to 12 gives switch 0 with this
--- number.
+-- ---- Power-on: V 10,000, a 16, all else 0; watch 1 (axes) by paper 02, 2/14. 1: a switch over 15 or equal to 12 gives
+-- switch 0 with this number.
 
 abbrev pub badSwitch : ℕ → Bool
 badSwitch switch = ltb 15 switch || eqb switch 12
@@ -34,7 +34,7 @@ plan₀ = record { distance = λ k. 0; minus = λ k. false }
 abbrev pub powerOn : ℕ → Machine
 powerOn switch = record {
   switch = cond (badSwitch switch) 0 switch;
-  settings = record { speed = 10000; slope = 16; dwell = 0; watch = 0; polarity = 0; lowOn = 0; highOn = 0 };
+  settings = record { speed = 10000; slope = 16; dwell = 0; watch = 1; polarity = 0; lowOn = 0; highOn = 0 };
   next = plan₀;
   move = moveOf plan₀ 0 (λ k. 0) 0 0 0 false false;
   position = λ k. pos 0;

@@ -8,6 +8,7 @@ mod PrintLaws
 mod PartLaws
 mod PlaceLaws
 pub mod SessionLaws
+mod OpeningLaws
 pub mod PrintedLaws
 mod LineLaws
 pub mod AfterLaws

@@ -7,12 +7,17 @@ use mathlib.Core.List.{List, [], _∷_, _++_, append-assoc, append-nil}
 use mathlib.Core.Path.{_≡_, refl, sym, ap, _∙_}
 use lib.Dec.{eqb}
 use lib.Seq.{append-snoc}
+use Rattle.digits.specs.Digits.{numberOf, sixOf}
+use Rattle.block.specs.Block.{blockOf}
+use Rattle.line.specs.Line.{judgeOf, judgeRow}
+use Rattle.reply.specs.Reply.{replyOf}
 use Rattle.machine.specs.State.{Machine}
-use Rattle.machine.specs.Steps.{byteStep}
-use Rattle.machine.specs.Calls.{Call, byte, bytes, run, from, buffer}
+use Rattle.machine.specs.Steps.{powerOn, byteStep}
+use Rattle.machine.specs.Calls.{Call, byte, bytes, chars, run, from, buffer}
 use Rattle.session.specs.Asked.{letterT, askedOf}
-use Rattle.session.specs.Session.{sending, asking, Answer, shown, asks}
-use Rattle.session.specs.Lines.{prints, atLine, replies, goesIn, doneBy, lineDone, isLine, Lines}
+use Rattle.session.specs.Session.{sending, asking, Answer, fresh, shown, asks}
+use Rattle.session.specs.Lines.{prints, fed, atLine, replies, goesIn, doneBy, lineDone, isLine, Lines}
+use Rattle.session.proofs.OpeningLaws.{off-is, first-is}
 use Rattle.session.proofs.PrintedLaws.{prints-parts}
 
 -- A character of a line is no line feed, and the rest is a line.
@@ -123,6 +128,20 @@ last-line m c cs e = rw (char (eqb c 10) (isLine cs) e) (by (eqb c letterT))
     by true = asking-last m (c ∷ []) cs (rest-line (eqb c 10) (isLine cs) e)
     by false = rw (char (eqb c 10) (isLine cs) e) at (sending-last m (c ∷ cs) e)
 
+-- The host's first line as the first of an input.
+opens-is : (bs : List ℕ)
+    → prints (atLine (powerOn 0)) (fed ("P0B0" ∷ []) ++ bs) ≡ fed ("U0000000" ∷ []) ++ prints fresh bs
+unfolding replies run judgeOf judgeRow numberOf replyOf blockOf sixOf
+opens-is bs = whole-line (powerOn 0) (chars "P0B0") bs refl
+
 pub lines : Lines
 unfolding prints
-lines = record { parts = prints-parts; nothing = λ m. refl; whole = whole-line; last = last-line }
+lines = record {
+  opens = opens-is;
+  off = λ i. atLine (off-is i);
+  first = first-is;
+  parts = prints-parts;
+  nothing = λ m. refl;
+  whole = whole-line;
+  last = last-line;
+}

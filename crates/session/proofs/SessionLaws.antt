@@ -7,8 +7,8 @@ use lib.Dec.{ltb, eqb}
 use lib.ListN.{length}
 use Rattle.laws.proofs.Pick.{by-bool}
 use Rattle.machine.specs.State.{Machine}
-use Rattle.machine.specs.Steps.{powerOn}
-use Rattle.machine.specs.Calls.{Call, byte, run, state, ticks, buffer}
+use Rattle.machine.specs.Calls.{Call, byte, run, state, ticks, buffer, bytes}
+use Rattle.host.specs.Watch.{watchOff}
 use Rattle.controller.specs.declared.state.Controller.{Controller}
 use Rattle.controller.specs.Held.{held}
 use Rattle.controller.specs.Reach.{Reachable}
@@ -43,11 +43,10 @@ use Rattle.session.specs.Session.{
 }
 use Rattle.session.proofs.SumLaws.{past-state}
 
-pub fresh-told : (c : Controller) (k : Kept) → c ≡ held (powerOn 0) → k ≡ keeping []
+pub fresh-told : (c : Controller) (k : Kept) → c ≡ held (fresh .machine) → k ≡ keeping []
     → (record { controller = c; kept = k; place = Start } ≡ heldBench fresh)
     × Running (record { controller = c; kept = k; place = Start })
-unfolding run
-fresh-told c k p q = (e, record { switch = 0; history = []; place = starting; made = sym e })
+fresh-told c k p q = (e, record { switch = 0; history = bytes watchOff []; place = starting; made = sym e })
   where
     e : record { controller = c; kept = k; place = Start } ≡ heldBench fresh
     e = λ i. record { controller = p i; kept = q i; place = Start }

@@ -1,16 +1,17 @@
 -- Paper 01, "Host end and program", of whole lines: what the bench prints for an input, taken byte by byte, is what the
 -- paper says of each of its lines in turn.
 use Prim.Native.Nat.{ℕ}
+use Prim.Native.String.{String}
 use mathlib.Core.Bool.{Bool, true, false, cond, not, _&&_}
 use mathlib.Core.List.{List, [], _∷_, _++_}
 use mathlib.Core.Path.{_≡_}
 use lib.Dec.{eqb}
 use Rattle.digits.specs.Digits.{endByte}
-use Rattle.machine.specs.State.{Machine}
-use Rattle.machine.specs.Steps.{byteStep}
-use Rattle.machine.specs.Calls.{buffer, bytes, from}
+use Rattle.machine.specs.State.{Machine, put, withSettings}
+use Rattle.machine.specs.Steps.{powerOn, byteStep}
+use Rattle.machine.specs.Calls.{buffer, bytes, chars, from}
 use Rattle.session.specs.Asked.{letterT, askedOf}
-use Rattle.session.specs.Session.{starting, Bench, Answer, shown, asks, taken, finished}
+use Rattle.session.specs.Session.{starting, Bench, Answer, fresh, shown, asks, taken, finished}
 
 -- What is printed for an input, taken byte by byte to its end.
 unfoldable pub prints : Bench → List ℕ → List ℕ
@@ -26,6 +27,17 @@ printedBy x (b ∷ bs) = taken x b .printed ++ printedBy (taken x b .bench) bs
 unfoldable pub after : Bench → List ℕ → Bench
 after x [] = x
 after x (b ∷ bs) = after (taken x b .bench) bs
+
+-- Texts, each ended by a line feed.
+abbrev pub fed : List String → List ℕ
+fed [] = []
+fed (l ∷ ls) = chars l ++ (10 ∷ fed ls)
+
+-- What q 8 tells where nothing has moved: travels, status, positions and inputs, all 0.
+abbrev pub allZero : List String
+allZero =
+    "S0000000" ∷ "S0100000" ∷ "S0200000" ∷ "S0300000" ∷ "S0400000" ∷ "S0600000"
+    ∷ "s0000000" ∷ "s0100000" ∷ "s0200000" ∷ "s0300000" ∷ "s0400000" ∷ "R0000000" ∷ []
 
 -- Before a line.
 abbrev pub atLine : Machine → Bench
@@ -61,9 +73,17 @@ abbrev pub isLine : List ℕ → Bool
 isLine [] = true
 isLine (c ∷ cs) = not (eqb c 10) && isLine cs
 
--- The first says that an input prints what its bytes print and then what its end does; the other three say what is
--- printed for every input.
+-- The first three say how the bench begins, before any input; the next that an input prints what its bytes print and
+-- then what its end does; the last three what is printed for every input.
 pub record Lines : Type 0 where
+  -- power-on with switch 0 and the host's first line, whose reply is dropped (paper 02, 2/14): as the first line of an
+  -- input to a bench at plain power-on it prints U0000000, and then all that is printed here
+  pub opens : (bs : List ℕ)
+      → prints (atLine (powerOn 0)) (fed ("P0B0" ∷ []) ++ bs) ≡ fed ("U0000000" ∷ []) ++ prints fresh bs
+  -- it leaves the watch off, and all else as power-on made it
+  pub off : fresh ≡ atLine (withSettings (powerOn 0) (put (powerOn 0 .settings) 11 0))
+  -- so a first line q08 prints its twelve blocks and nothing else
+  pub first : prints fresh (fed ("q08" ∷ [])) ≡ fed allZero
   pub parts : (x : Bench) (bs : List ℕ) → prints x bs ≡ printedBy x bs ++ finished (after x bs) .printed
   pub nothing : (m : Machine) → prints (atLine m) [] ≡ []
   -- a line, its line feed, and the rest of the input

@@ -10,10 +10,11 @@ use Rattle.laws.specs.Axes.{each}
 use Rattle.block.specs.Block.{over}
 use Rattle.machine.specs.State.{Machine}
 use Rattle.machine.specs.Steps as steps
-use Rattle.machine.specs.Steps.{powerOn, byteStep}
-use Rattle.machine.specs.Calls.{Call, state, buffer}
+use Rattle.machine.specs.Steps.{byteStep}
+use Rattle.machine.specs.Calls.{Call, state, buffer, bytes}
 use Rattle.controller.specs.declared.state.Controller.{Controller}
 use Rattle.controller.specs.Held.{held}
+use Rattle.host.specs.Watch.{watchOff}
 use Rattle.session.specs.declared.asked.Asked.{Asked}
 use Rattle.session.specs.declared.asked.Asked.the-variants.{Malformed, Ticks}
 use Rattle.session.specs.declared.state.Place as declared
@@ -44,9 +45,10 @@ pub record Answer : Type 0 where
   pub printed : List ℕ
   pub number : ℕ
 
--- At power-on with switch 0, before any line.
+-- Before any input: power-on with switch 0, and then the host's first line goes in, whose reply is dropped (paper 02,
+-- 2/14).
 abbrev pub fresh : Bench
-fresh = record { machine = powerOn 0; place = starting }
+fresh = record { machine = state 0 (bytes watchOff []); place = starting }
 
 -- Replies print with a line feed for 0D.
 abbrev pub shownByte : ℕ → ℕ

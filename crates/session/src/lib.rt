@@ -24,21 +24,21 @@ use digits::END;
 mod answer;
 mod asked;
 mod kept;
+mod opening;
 pub mod state;
 mod stretch;
 mod text;
 mod ticks;
 
 impl Session {
-    // A controller of switch 0, before any line. The law of whole lines stands here as a promise, so that the gate
-    // keeps it: it speaks of the bench whose held values every entry answers.
+    // A controller of switch 0 that got the host's first line, before any input. The law of whole lines stands here as
+    // a promise, so that the gate keeps it: it speaks of the bench whose held values every entry answers.
     pub fn new() -> Session
         ensures { λ r. ⌜ r ≡ heldBench fresh ⌝ }
         ensures { λ r. ⌜ Running r ⌝ }
         ensures { λ _. ⌜ Lines ⌝ }
     {
-        let on = controller::power_on(0);
-        let controller = on.controller;
+        let controller = opening::opened();
         let kept = Kept::new();
         Session {
             controller,

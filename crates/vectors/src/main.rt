@@ -21,7 +21,8 @@ mod settings;
 mod text;
 mod writer;
 
-// A session of the bench program from power-on: up to 65,536 bytes, twice as many as the longest that is stored.
+// A session of the bench program from power-on and its own first line: up to 65,536 bytes, twice as many as the
+// longest that is stored.
 fn play_session(file: i32) {
     let mut bytes = io::large_buffer();
     let n = io::read_full(file, &mut bytes);

@@ -7,6 +7,7 @@ pub mod programs;
 pub mod refused;
 pub mod sequence;
 pub mod stopped;
+pub mod stored_lists;
 pub mod vectors;
 
 use reference::{front, Machine};

@@ -5,9 +5,11 @@ use mathlib.Core.Path.{_≡_, sym, _∙_}
 use Rattle.machine.specs.Demand.{Demand3}
 use Rattle.machine.specs.Journal.{Journal}
 use Rattle.machine.specs.Marked.{Marked}
+use Rattle.machine.specs.Watch.{Watch}
 use Rattle.machine.proofs.DemandLaws.{demand-3}
 use Rattle.machine.proofs.MarkedLaws.{marked}
 use Rattle.machine.proofs.TakenLaws.{journal-is}
+use Rattle.machine.proofs.WatchLaws.{watched}
 use Rattle.witness.specs.Entries.{EntryWitness}
 use Rattle.witness.specs.Witness.{Witness}
 use Rattle.witness.proofs.EntryWitnessLaws.{entries}
@@ -30,12 +32,12 @@ powered : (s : ℕ) (r : PowerOn) → r ≡ heldPower s
     × (Demand3
     × (Marked
     × (Witness
-    × (Demand3Answers × (Journal × (JournalAnswers × (EntryWitness × Reachable (r .controller))))))))
+    × (Demand3Answers × (Journal × (JournalAnswers × (EntryWitness × (Watch × Reachable (r .controller)))))))))
 powered s r e = (
   e,
   (
     demand-3,
-    (marked, (witness, (demand-3-answers, (journal-is, (journal-answers, (entries, reach-power s r e)))))),
+    (marked, (witness, (demand-3-answers, (journal-is, (journal-answers, (entries, (watched, reach-power s r e))))))),
   ),
 )
 

@@ -27,9 +27,9 @@ isBadOf switch = ltb 15 switch || eqb switch 12
 abbrev pub freshPlan : Plan
 freshPlan = record { distances = each (λ k. 0); minus = each (λ k. false) }
 
--- V 10,000, a 16, all else 0, watch off.
+-- V 10,000, a 16, watch 1 (axes), all else 0.
 abbrev pub freshSettingsOf : Settings
-freshSettingsOf = record { speed = 10000; slope = 16; dwell = 0; polarity = 0; low = 0; high = 0; watch = 0 }
+freshSettingsOf = record { speed = 10000; slope = 16; dwell = 0; polarity = 0; low = 0; high = 0; watch = 1 }
 
 -- No move runs.
 abbrev pub freshRunOf : Run

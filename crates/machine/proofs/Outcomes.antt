@@ -1,0 +1,47 @@
+-- A fact about what comes of a received byte, by the four cases: it is not taken, it joins a line, its line is turned
+-- away, its line is accepted. Assumes nothing.
+use Prim.Native.Nat.{ℕ}
+use mathlib.Core.Bool.{Bool}
+use mathlib.Core.List.{List}
+use mathlib.Core.Path.{_≡_}
+use borrow.Author.Tests.{eqb-true}
+use lib.Dec.{ltb, eqb}
+use lib.ListN.{length}
+use Rattle.laws.proofs.Pick.{by-bool}
+use Rattle.digits.specs.declared.Ident.{Ident}
+use Rattle.line.specs.declared.command.Command.{Command}
+use Rattle.line.specs.declared.Judged.{Judged}
+use Rattle.line.specs.declared.Judged.the-variants.{Accepted, Refused}
+use Rattle.receiver.specs.declared.Heard.{Heard}
+use Rattle.receiver.specs.declared.Heard.the-variants.{Character, Line}
+use Rattle.receiver.specs.Receiver.{receive}
+use Rattle.machine.specs.State.{Machine}
+use Rattle.machine.specs.Commands.{number}
+use Rattle.machine.specs.Steps.{
+  Outcome,
+  untaken,
+  gathered,
+  refused,
+  accepted,
+  decided,
+  outcomeOf,
+  outcome,
+}
+
+module _ (m : Machine) (P : Outcome → Type 0) (left : P untaken) (joined : P gathered)
+    (away : (n : ℕ) (silent : Bool) (ident : Ident) → P (refused n silent ident))
+    (obeyed : (c : Command) (digits : ℕ) (silent : Bool) (ident : Ident) → number m c ≡ 0
+    → P (accepted c digits silent ident)) where
+  by-decided : (silent : Bool) (ident : Ident) (j : Judged) → P (decided m silent ident j)
+  by-decided silent ident (Refused n) = away n silent ident
+  by-decided silent ident (Accepted c digits) =
+      by-bool P (eqb (number m c) 0) _ _ (λ e. obeyed c digits silent ident (eqb-true (number m c) 0 e))
+      (λ e. away (number m c) silent ident)
+
+  by-heard : (h : Heard) → P (outcomeOf m h)
+  by-heard Character = joined
+  by-heard (Line silent ident j) = by-decided silent ident j
+
+  pub by-outcome : (b : ℕ) (buffer : List ℕ) → P (outcome m b buffer)
+  by-outcome b buffer =
+      by-bool P (ltb (length buffer) 120) _ _ (λ e. left) (λ e. by-heard (receive (m .line) b .heard))
