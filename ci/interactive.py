@@ -7,6 +7,7 @@ last line of a session comes without its line feed, and is answered once the inp
 says of an output that is closed and of an input that is not ready. Exit 1, naming what was to come and what came.
 """
 import os
+import re
 import select
 import signal
 import subprocess
@@ -18,7 +19,8 @@ from subprocess import PIPE
 
 import stored
 
-SESSIONS = ["protocol.in", "refusals.in", "readings.in", "stops.in", "dwell.in", "opening.in"]
+SESSIONS = ["protocol.in", "refusals.in", "readings.in", "stops.in", "dwell.in", "opening.in", "settle.in"]
+WAITING = re.compile(rb"W[04]([0-9A-Fa-f]{6}[0-9A-F]?)?\n?")  # an accepted W line: a T line gives its block
 LIMIT = 20  # seconds for a reply
 PAUSE = 0.01  # seconds in which nothing may be printed
 STOPPED = b"bench: stopped, input or output failed\n"
@@ -29,11 +31,17 @@ class Wrong(Exception):
 
 
 def exchanges(name):
-    """Each line of a stored session with its reply: none to a silent line, twelve blocks to q 8, else one line."""
+    """Each line of a stored session with its reply: none to a silent line and to an accepted W line, twelve blocks to
+    q 8, to a T line the sums and before them the block of a W line if it comes, else one line."""
     replies = BytesIO(stored.answers(name)).readlines()
     for line in BytesIO(stored.given(name)):
-        silent = line[1:2] == b"4" and line[:1] != b"T"
-        count = 0 if silent else 12 if line.startswith(b"q08") and replies[0][:1] == b"S" else 1
+        ticks, first = line[:1] == b"T", b"".join(replies[:1])[:1]
+        if WAITING.fullmatch(line) or line[1:2] == b"4" and not ticks:
+            count = 0
+        elif line.startswith(b"q08") and first == b"S":
+            count = 12
+        else:
+            count = 2 if ticks and first == b"R" else 1
         yield line, b"".join(replies[:count])
         del replies[:count]
     if replies:

@@ -6,12 +6,17 @@
 
 #include "temixohuel.h"
 
-/* A received byte; its reply is printed with a line feed for 0D. */
-static temixohuel_controller receive(temixohuel_controller bench, uint8_t b) {
-    uint8_t reply[TEMIXOHUEL_REPLY];
-    temixohuel_byte_answer answer = temixohuel_byte(bench, reply, sizeof reply, b);
-    for (size_t at = 0; at < answer.length; at++)
+/* The buffer lent to bytes and ticks; a reply in it is printed with a line feed for 0D. */
+static uint8_t reply[TEMIXOHUEL_REPLY];
+
+static void print_reply(size_t count) {
+    for (size_t at = 0; at < count; at++)
         putchar(reply[at] == '\r' ? '\n' : reply[at]);
+}
+
+static temixohuel_controller receive(temixohuel_controller bench, uint8_t b) {
+    temixohuel_byte_answer answer = temixohuel_byte(bench, reply, sizeof reply, b);
+    print_reply(answer.length);
     return answer.controller;
 }
 
@@ -36,11 +41,12 @@ static void print_journal(void) {
     }
 }
 
-/* Ticks with one input word; the sums of the signed pulses are printed. */
+/* Ticks with one input word; the block of a W line, if it comes, and the sums of the signed pulses are printed. */
 static temixohuel_controller ticks(temixohuel_controller bench, int count, uint32_t word) {
     int sums[TEMIXOHUEL_AXES] = {0};
     for (int tick = 0; tick < count; tick++) {
-        temixohuel_tick_answer answer = temixohuel_tick(bench, word);
+        temixohuel_tick_answer answer = temixohuel_tick(bench, reply, sizeof reply, word);
+        print_reply(answer.length);
         for (int axis = 0; axis < TEMIXOHUEL_AXES; axis++)
             sums[axis] += answer.pulses[axis];
         if (answer.ended)

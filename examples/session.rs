@@ -7,11 +7,15 @@ mod temixohuel;
 
 use temixohuel::{append, read, Controller};
 
-/// A received byte; its reply is printed with a line feed for 0D.
+/// A reply is printed with a line feed for 0D.
+fn print_reply(reply: &[u8]) {
+    print!("{}", String::from_utf8_lossy(reply).replace('\r', "\n"));
+}
+
 fn receive(bench: &mut Controller, b: u8) {
     let mut reply = [0; 120];
     let length = bench.byte(&mut reply, b).length;
-    print!("{}", String::from_utf8_lossy(&reply[..length]).replace('\r', "\n"));
+    print_reply(&reply[..length]);
 }
 
 fn line(bench: &mut Controller, text: &str) {
@@ -38,11 +42,13 @@ fn print_journal(journal: &Journal) {
     }
 }
 
-/// Ticks with one input word; the sums of the signed pulses are printed.
+/// Ticks with one input word; the block of a W line, if it comes, and the sums of the signed pulses are printed.
 fn ticks(bench: &mut Controller, journal: &mut Journal, count: u32, word: u32) {
     let mut sums = [0; 5];
+    let mut reply = [0; 120];
     for _ in 0..count {
-        let answer = bench.tick(word);
+        let answer = bench.tick(&mut reply, word);
+        print_reply(&reply[..answer.length as usize]);
         sums.iter_mut().zip(answer.pulses).for_each(|(sum, pulse)| *sum += pulse as i32);
         if answer.ended {
             journal.length = append(&mut journal.bytes, journal.length, answer.entry).next;

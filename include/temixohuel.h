@@ -23,7 +23,7 @@ extern "C" {
 #endif
 
 #define TEMIXOHUEL_AXES 5
-/* The least length of a buffer lent for a reply. */
+/* The least length of a buffer lent to a byte or a tick, whether a reply comes or not. */
 #define TEMIXOHUEL_REPLY 120
 /* The greatest length of an entry in a journal. */
 #define TEMIXOHUEL_ENTRY 23
@@ -32,7 +32,7 @@ extern "C" {
 enum {
     TEMIXOHUEL_TAKEN = 0,           /* nothing turned away */
     TEMIXOHUEL_SWITCH = 1,          /* power-on: switch over 15, or 12; the controller has switch 0 */
-    TEMIXOHUEL_BUFFER = 2,          /* byte: buffer under 120 bytes; the byte is not taken */
+    TEMIXOHUEL_BUFFER = 2,          /* byte or tick: buffer under 120 bytes; not taken */
     TEMIXOHUEL_WORD = 3,            /* tick: input word over FFFFFF; no tick */
     TEMIXOHUEL_LENGTH = 4,          /* line: under 2 or over 9 characters */
     TEMIXOHUEL_LETTER = 5,          /* line: first character not P, Q, q, W */
@@ -80,9 +80,10 @@ typedef struct {
     uint32_t first;                 /* output words of the tick's two halves */
     uint32_t second;
     int8_t pulses[TEMIXOHUEL_AXES]; /* -1, 0 or 1 */
-    uint8_t number;                 /* 0, 3, or 12 to 17 of a waiting start that failed */
+    uint8_t number;                 /* 0, 2, 3, or 12 to 17 of a waiting start that failed */
     bool ended;                     /* the tick ends a move */
-    temixohuel_entry entry;         /* of that move; all zeros without an end */
+    uint8_t length;                 /* of the block at the front of buf, 9 or 10; 0 without one */
+    temixohuel_entry entry;         /* of the move that ended; all zeros without an end */
 } temixohuel_tick_answer;
 
 typedef struct {
@@ -112,8 +113,13 @@ temixohuel_power_answer temixohuel_power_on(uint8_t switch_);
 /* A received byte; a reply is written to the front of buf, and the bytes after it keep their values. */
 temixohuel_byte_answer temixohuel_byte(temixohuel_controller c, uint8_t *buf, size_t length, uint8_t b);
 
-/* A tick of 4 us, with its input word. The tick that ends a move, and no other, answers its entry. */
-temixohuel_tick_answer temixohuel_tick(temixohuel_controller c, uint32_t word);
+/* A tick of 4 us, with its input word and a buffer of TEMIXOHUEL_REPLY bytes or more, lent to each tick. Number 2 (a
+   shorter buffer), or else 3 (a word over FFFFFF): no tick, c and buf unaltered, words and pulses 0, no entry, length
+   0. The tick that ends a move, and no other, answers its entry. An accepted W line answers no bytes: the 2,500th tick
+   (10 ms) after it, those turned away not counted, writes its block, with that tick's inputs, to the front of buf and
+   answers its length. Another accepted W line before that takes its place; a silent one gives none. All other bytes of
+   buf keep their values. A buffer that is lent again is written over: send what stands in it first. */
+temixohuel_tick_answer temixohuel_tick(temixohuel_controller c, uint8_t *buf, size_t length, uint32_t word);
 
 /* The pulses of each axis in the latest move; the signed pulses since power-on or the last position reset. */
 temixohuel_travel_answer temixohuel_travels(temixohuel_controller c);

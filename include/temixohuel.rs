@@ -34,8 +34,9 @@ pub struct ByteAnswer {
     pub number: u8,
 }
 
-/// What a tick answers: the output words of its two halves, the five pulses, its number, and whether it ends a move,
-/// with the entry of that move; an entry without an end is all zeros.
+/// What a tick answers: the output words of its two halves, the five pulses, its number, whether it ends a move, the
+/// length of the block of a W line at the front of the lent buffer, and the entry of the ended move; the length without
+/// a block is 0, and an entry without an end is all zeros.
 #[repr(C)]
 #[derive(Clone, Copy)]
 pub struct TickAnswer {
@@ -45,6 +46,7 @@ pub struct TickAnswer {
     pub pulses: [i8; 5],
     pub number: u8,
     pub ended: bool,
+    pub length: u8,
     pub entry: Entry,
 }
 
@@ -80,7 +82,7 @@ pub struct ReadAnswer {
 extern "C" {
     fn temixohuel_power_on(switch: u8) -> PowerAnswer;
     fn temixohuel_byte(c: Opaque, buf: *mut u8, length: usize, b: u8) -> ByteAnswer;
-    fn temixohuel_tick(c: Opaque, word: u32) -> TickAnswer;
+    fn temixohuel_tick(c: Opaque, buf: *mut u8, length: usize, word: u32) -> TickAnswer;
     fn temixohuel_travels(c: Opaque) -> TravelAnswer;
     fn temixohuel_positions(c: Opaque) -> PositionAnswer;
     fn temixohuel_status(c: Opaque) -> u8;
@@ -103,16 +105,19 @@ impl Controller {
         (Controller(answer.controller), answer.number)
     }
 
-    /// A received byte, with the buffer lent for a reply.
+    /// A received byte, with the buffer of 120 bytes or more lent for a reply.
     pub fn byte(&mut self, buf: &mut [u8], b: u8) -> ByteAnswer {
         let answer = unsafe { temixohuel_byte(self.0, buf.as_mut_ptr(), buf.len(), b) };
         self.0 = answer.controller;
         answer
     }
 
-    /// A tick, with its input word.
-    pub fn tick(&mut self, word: u32) -> TickAnswer {
-        let answer = unsafe { temixohuel_tick(self.0, word) };
+    /// A tick, with its input word and the buffer of 120 bytes or more lent for the block of a W line; a shorter one is
+    /// 2, checked before 3, and either leaves all as it was. The block comes in the 2,500th tick (10 ms) after the
+    /// line, those turned away not counted; another accepted W line before takes its place, and a silent one gives
+    /// none.
+    pub fn tick(&mut self, buf: &mut [u8], word: u32) -> TickAnswer {
+        let answer = unsafe { temixohuel_tick(self.0, buf.as_mut_ptr(), buf.len(), word) };
         self.0 = answer.controller;
         answer
     }

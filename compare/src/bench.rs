@@ -32,9 +32,9 @@ impl Stand {
         self.observed.byte(byte, lent).number
     }
 
-    /// Ticks with one input word; there may be more of them than are left.
-    fn ticks(&mut self, count: u32, word: u32) {
-        self.observed.ticks(count, word);
+    /// Ticks with one input word, all lent one buffer; there may be more of them than are left.
+    fn ticks(&mut self, count: u32, word: u32, lent: &mut [u8]) {
+        self.observed.ticks(count, word, lent);
         self.ticks_left = self.ticks_left.saturating_sub(count);
     }
 
@@ -56,7 +56,7 @@ pub trait Bench {
     fn send(&mut self, random: &mut Random, line: &[u8]) -> u8;
 
     /// Runs ticks with one input word, no more than are left.
-    fn run(&mut self, count: u32, word: u32);
+    fn run(&mut self, random: &mut Random, count: u32, word: u32);
 
     /// Does something that no other kind of bench has.
     fn oddity(&mut self, random: &mut Random);

@@ -1,8 +1,10 @@
 //! Counters of what a run has met, and how they are printed.
 
+mod blocks;
 mod marks;
 mod moves;
 
+pub use blocks::Blocks;
 pub use marks::Marks;
 pub use moves::{Cause, Moves};
 
@@ -23,9 +25,11 @@ pub struct Coverage {
     pub ticks: u64,
     pub readings: u64,
     pub moves: Moves,
+    pub blocks: Blocks,
     pub switches: Marks,
-    /// Lengths of lent buffers.
+    /// Lengths of buffers lent to bytes, and to ticks.
     pub lent: Marks,
+    pub lent_to_ticks: Marks,
     pub numbers: [u64; LAST_NUMBER + 1],
 }
 
@@ -50,8 +54,10 @@ impl Counted for Coverage {
     fn add(&mut self, more: &Coverage) {
         self.add_traffic(more);
         self.moves.add(&more.moves);
+        self.blocks.add(&more.blocks);
         self.switches.join(&more.switches);
         self.lent.join(&more.lent);
+        self.lent_to_ticks.join(&more.lent_to_ticks);
         add_each(&mut self.numbers, &more.numbers);
     }
 }
@@ -62,9 +68,9 @@ impl fmt::Display for Coverage {
         writeln!(f, "  calls {}, ticks {}, readings {}", g(self.calls), g(self.ticks), g(self.readings))?;
         let bytes = format!("bytes received {}, bytes of replies {}", g(self.bytes), g(self.reply_bytes));
         writeln!(f, "  lines {}, {bytes}", g(self.lines))?;
-        let [switches, lent] = [&self.switches, &self.lent].map(Marks::count);
-        writeln!(f, "  switches {switches} of 256, lengths of lent buffers {lent}")?;
-        write!(f, "{}", self.moves)?;
+        let [switches, lent, to_ticks] = [&self.switches, &self.lent, &self.lent_to_ticks].map(Marks::count);
+        writeln!(f, "  switches {switches} of 256, lengths of buffers lent to bytes {lent}, to ticks {to_ticks}")?;
+        write!(f, "{}{}", self.blocks, self.moves)?;
         let numbers = (1..=LAST_NUMBER).map(|number| (format!("{number}:"), self.numbers[number]));
         writeln!(f, "  numbers: {}", listed(numbers))
     }

@@ -89,6 +89,25 @@ pub fn status() -> Order {
     short(b'Q', "6".into())
 }
 
+/// The query of the inputs, without digits.
+pub fn inputs() -> Order {
+    Order { letter: b'W', digits: String::new(), most: 0 }
+}
+
+/// A W line that is turned away: one to five digits, at times with a character behind them that is no digit, or six
+/// and behind them no identification.
+pub fn refused_w(random: &mut Random) -> Vec<u8> {
+    let count = random.between(1, SIX as u32) as usize;
+    let mut line = vec![b'W', random.pick(b"004")];
+    line.extend((0..count).map(|_| random.digit()));
+    if count == SIX {
+        line.push(random.pick(b"afGg:@`"));
+    } else if random.chance(30) {
+        line.push(random.pick(b"Gg:@`"));
+    }
+    line
+}
+
 /// One of the lines that only read: travel, status, position, everything, inputs.
 pub fn reading(random: &mut Random) -> Order {
     match random.below(5) {
@@ -96,6 +115,6 @@ pub fn reading(random: &mut Random) -> Order {
         1 => status(),
         2 => short(b'q', random.below(5).to_string()),
         3 => short(b'q', "8".into()),
-        _ => Order { letter: b'W', digits: String::new(), most: 0 },
+        _ => inputs(),
     }
 }

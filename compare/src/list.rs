@@ -1,7 +1,7 @@
 //! Call lists: the same calls through the firmware library and through the reference machine, call by call.
 
 use crate::bench::Called;
-use crate::call::{Call, BYTE, TICKS};
+use crate::call::{Call, BYTE, LONGEST_LENT, TICK, TICKS};
 use crate::coverage::Coverage;
 use crate::journal::Journal;
 use crate::operator::{Operator, POWER_ON_WATCH, WATCH_OFF};
@@ -42,10 +42,10 @@ pub fn calls_of(list: List) -> (Vec<Call>, Coverage) {
     bench.finish()
 }
 
-/// What one call answers, of a received byte with the whole lent buffer.
+/// What one call answers, of a received byte and of a tick with the whole lent buffer.
 #[derive(Debug, PartialEq, Eq)]
 enum Answer {
-    Tick(TickAnswer),
+    Tick(TickAnswer, Vec<u8>),
     Byte(ByteAnswer, Vec<u8>),
     Readings(Readings),
 }
@@ -53,19 +53,34 @@ enum Answer {
 impl fmt::Display for Answer {
     fn fmt(&self, f: &mut fmt::Formatter) -> fmt::Result {
         match self {
-            Answer::Tick(answer) => write!(f, "{answer:?}"),
+            Answer::Tick(answer, lent) => write!(f, "{answer:?}, buffer '{}'", lent.escape_ascii()),
             Answer::Byte(answer, lent) => write!(f, "{answer:?}, buffer '{}'", lent.escape_ascii()),
             Answer::Readings(told) => write!(f, "{told:?}"),
         }
     }
 }
 
-/// A machine's answer to one call, of ticks to a single one. No two bytes of a lent buffer are alike before it.
+/// What a buffer holds before it is lent: no two bytes are alike.
+const UNLIKE: [u8; LONGEST_LENT] = {
+    let mut bytes = [0; LONGEST_LENT];
+    let mut at = 0;
+    while at < LONGEST_LENT {
+        bytes[at] = at as u8 ^ 0x80;
+        at += 1;
+    }
+    bytes
+};
+
+/// A machine's answer to one call, of ticks to a single one.
 fn answer(machine: &mut impl Played, call: Call) -> Answer {
+    let lent = || UNLIKE[..call.lent()].to_vec();
     match call.kind {
-        TICKS => Answer::Tick(machine.tick(call.value)),
+        TICKS | TICK => {
+            let mut lent = lent();
+            Answer::Tick(machine.tick(call.value, &mut lent), lent)
+        }
         BYTE => {
-            let mut lent: Vec<u8> = (0..call.lent()).map(|at| at as u8 ^ 0x80).collect();
+            let mut lent = lent();
             Answer::Byte(machine.byte(call.received(), &mut lent), lent)
         }
         _ => Answer::Readings(machine.readings()),
@@ -97,7 +112,7 @@ impl Both {
             return Err(format!("library:   {our}\nreference: {their}\nreference after it: {theirs:?}\n"));
         }
         match our {
-            Answer::Tick(TickAnswer { entry: Some(entry), .. }) => journal.append(entry),
+            Answer::Tick(TickAnswer { entry: Some(entry), .. }, _) => journal.append(entry),
             _ => Ok(()),
         }
     }

@@ -4,7 +4,7 @@ use crate::bits::{BLOCKED, BY_SENSOR, HELD, MOVING, STOPPED};
 use crate::call::LONGEST_LENT;
 use crate::coverage::{Cause, Coverage};
 use reference::journal::Entry;
-use reference::{ByteAnswer, Machine};
+use reference::{front, ByteAnswer, Machine};
 
 /// A reference machine whose answers are counted.
 pub struct Observed {
@@ -16,6 +16,8 @@ pub struct Observed {
     /// The characters of the line under way, and whether a watch line has been accepted since power-on.
     line: Vec<u8>,
     watch_set: bool,
+    /// The block of a W line is still to come.
+    settling: bool,
 }
 
 /// Whether a line, if it is accepted, sets the watch.
@@ -30,7 +32,7 @@ impl Observed {
         seen.number(number);
         seen.switches.mark(switch);
         let status = machine.status();
-        Observed { machine, seen, status, stop_begun: false, line: Vec::new(), watch_set: false }
+        Observed { machine, seen, status, stop_begun: false, line: Vec::new(), watch_set: false, settling: false }
     }
 
     /// As the bench programs begin: the host's first line was accepted, and is not counted (paper 02, 2/14).
@@ -59,6 +61,7 @@ impl Observed {
         self.seen.calls += 1;
         self.seen.bytes += 1;
         self.seen.reply_bytes += answer.len as u64;
+        self.seen.blocks.byte(front(lent, answer.len));
         self.seen.lent.mark(lent.len().min(LONGEST_LENT) as u8);
         self.seen.number(answer.number);
         if answer.number == 2 {
@@ -67,7 +70,9 @@ impl Observed {
         if byte == reference::line::LINE_END {
             self.seen.lines += 1;
             let line = std::mem::take(&mut self.line);
-            self.watch_set |= answer.number == 0 && is_watch_line(&line);
+            if answer.number == 0 {
+                self.follow_accepted(&line);
+            }
             self.follow_line();
         } else {
             self.line.push(byte);
@@ -75,22 +80,36 @@ impl Observed {
         answer
     }
 
-    /// A call of ticks with one input word.
-    pub fn ticks(&mut self, count: u32, word: u32) {
+    /// A call of ticks with one input word, all lent one buffer.
+    pub fn ticks(&mut self, count: u32, word: u32, lent: &mut [u8]) {
         self.seen.calls += 1;
         for _ in 0..count {
-            self.tick(word);
+            self.tick(word, lent);
         }
     }
 
-    fn tick(&mut self, word: u32) {
-        let answer = self.machine.tick(word);
+    fn tick(&mut self, word: u32, lent: &mut [u8]) {
+        let answer = self.machine.tick(word, lent);
         self.seen.ticks += 1;
+        self.seen.reply_bytes += answer.len as u64;
+        self.seen.blocks.tick(&answer, word, lent);
+        self.seen.lent_to_ticks.mark(lent.len().min(LONGEST_LENT) as u8);
+        self.settling &= answer.len == 0;
         self.seen.moves.pulses += answer.pulses.iter().any(|&pulse| pulse != 0) as u64;
         if answer.number != 0 {
             self.seen.number(answer.number);
         }
         self.follow_tick(answer.entry);
+    }
+
+    /// An accepted line may set the watch; a W line takes the place of one whose block is still to come.
+    fn follow_accepted(&mut self, line: &[u8]) {
+        self.watch_set |= is_watch_line(line);
+        if line.first() == Some(&b'W') {
+            let asks = line.get(1) == Some(&b'0');
+            self.seen.blocks.w_line(asks, self.settling);
+            self.settling = asks;
+        }
     }
 
     fn begin_move(&mut self) {
@@ -140,5 +159,31 @@ impl Observed {
             self.seen.moves.cause(Cause::Sensor);
         }
         self.stop_begun |= self.status & (STOPPED | HELD | BY_SENSOR) != 0;
+    }
+}
+
+#[cfg(test)]
+mod tests {
+    use super::*;
+    use reference::line::with_line_end;
+
+    fn send(observed: &mut Observed, line: &str) {
+        with_line_end(line.as_bytes()).for_each(|byte| {
+            observed.byte(byte, &mut [0; LONGEST_LENT]);
+        });
+    }
+
+    #[test]
+    fn blocks_are_counted_by_where_they_come_from() {
+        let mut observed = Observed::power_on(0);
+        for (line, ticks) in [("W0", 2_499), ("W0ABCDEF3", 0), ("W01", 2_499), ("Q06", 1), ("W0", 1), ("W4", 2_500)] {
+            send(&mut observed, line);
+            observed.ticks(ticks, 0, &mut [0; 120]);
+        }
+        observed.ticks(2, 0, &mut [0; 119]);
+        let told = observed.into_seen().blocks.to_string();
+        assert!(told.contains("blocks from bytes 2, from ticks 1, of these 0 with an entry"), "{told}");
+        assert!(told.contains("ask for a block 3, replaced before it 2, cut off 0\n"), "{told}");
+        assert!(told.contains("turned away by 2 2, of these 0 with an over-large word, by 3 0\n"), "{told}");
     }
 }

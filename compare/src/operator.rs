@@ -11,6 +11,7 @@ use reference::machine::INPUT_WORD_END;
 mod at_rest;
 mod in_dwell;
 mod settings;
+mod settle;
 mod starts;
 mod under_way;
 
@@ -130,7 +131,7 @@ impl Operator {
 
     fn run_calm<B: Bench>(&mut self, bench: &mut B, count: u32) {
         let word = self.calm_word();
-        bench.run(count, word);
+        bench.run(&mut self.random, count, word);
     }
 
     /// Runs 1 to `most` ticks under a calm word.

@@ -18,7 +18,7 @@ pub struct Readings {
 pub trait Played: Sized {
     fn power_on(switch: u8) -> (Self, u8);
     fn byte(&mut self, b: u8, lent: &mut [u8]) -> ByteAnswer;
-    fn tick(&mut self, word: u32) -> TickAnswer;
+    fn tick(&mut self, word: u32, lent: &mut [u8]) -> TickAnswer;
     fn readings(&self) -> Readings;
 }
 
@@ -58,10 +58,10 @@ impl Played for Controller {
         ByteAnswer { len: answer.length, number: answer.number }
     }
 
-    fn tick(&mut self, word: u32) -> TickAnswer {
-        let answer = Controller::tick(self, word);
-        let (words, entry) = ([answer.first, answer.second], entry_of(&answer));
-        TickAnswer { pulses: answer.pulses, words, number: answer.number, entry }
+    fn tick(&mut self, word: u32, lent: &mut [u8]) -> TickAnswer {
+        let answer = Controller::tick(self, lent, word);
+        let (words, entry, len) = ([answer.first, answer.second], entry_of(&answer), answer.length as usize);
+        TickAnswer { pulses: answer.pulses, words, number: answer.number, entry, len }
     }
 
     fn readings(&self) -> Readings {
@@ -79,8 +79,8 @@ impl Played for Machine {
         Machine::byte(self, b, lent)
     }
 
-    fn tick(&mut self, word: u32) -> TickAnswer {
-        Machine::tick(self, word)
+    fn tick(&mut self, word: u32, lent: &mut [u8]) -> TickAnswer {
+        Machine::tick(self, word, lent)
     }
 
     fn readings(&self) -> Readings {

@@ -1,8 +1,9 @@
 //! A machine on a list of calls, with the digest that the replay library makes.
 
-use crate::call::{Call, BYTE, CALL_BYTES, LONGEST_LENT, TICKS};
+use crate::call::{Call, BYTE, CALL_BYTES, LONGEST_LENT, TICK, TICKS};
 use crate::digest;
 use crate::played::Played;
+use reference::machine::LEAST_REPLY_BUFFER;
 
 /// A machine and the digest of its answers so far.
 pub struct Replay<M> {
@@ -24,11 +25,26 @@ impl<M: Played> Replay<M> {
         self.digest = digest::after_byte(self.digest, answer, &buffer[..call.counted(answer.len)]);
     }
 
+    /// One tick with a lent buffer.
+    fn tick(&mut self, word: u32, lent: &mut [u8]) {
+        let answer = self.machine.tick(word, lent);
+        self.digest = digest::after_tick(self.digest, &answer, lent);
+    }
+
+    /// Ticks that are all lent one array, zeros at first.
     fn ticks(&mut self, count: u32, word: u32) {
+        let mut buffer = [0; LEAST_REPLY_BUFFER];
         for _ in 0..count {
-            let answer = self.machine.tick(word);
-            self.digest = digest::after_tick(self.digest, &answer);
+            self.tick(word, &mut buffer);
         }
+    }
+
+    /// One tick with the front part of a fresh array of zeros, all of which counts.
+    fn single_tick(&mut self, call: Call) {
+        let mut buffer = [0; LONGEST_LENT];
+        let lent = &mut buffer[..call.lent()];
+        self.tick(call.value, lent);
+        self.digest = digest::after_bytes(self.digest, lent);
     }
 
     /// One call.
@@ -36,6 +52,7 @@ impl<M: Played> Replay<M> {
         match call.kind {
             TICKS => self.ticks(call.count, call.value),
             BYTE => self.byte(call),
+            TICK => self.single_tick(call),
             _ => self.digest = digest::after_readings(self.digest, self.machine.readings()),
         }
     }
@@ -53,4 +70,33 @@ pub fn run<M: Played>(switch: u8, calls: &[u8]) -> Replay<M> {
 /// The digest of all answers of a machine to a list of calls.
 pub fn replay<M: Played>(switch: u8, calls: &[u8]) -> u32 {
     run::<M>(switch, calls).digest
+}
+
+#[cfg(test)]
+mod tests {
+    use super::*;
+    use crate::list;
+    use reference::{lists, Machine};
+
+    /// A call as the page of stored lists has it.
+    fn stored(call: &Call) -> lists::Call {
+        let (word, lent) = (call.value, call.lent() as u8);
+        match call.kind {
+            TICKS => lists::Call::Ticks { count: call.count, word },
+            BYTE => lists::Call::Byte { byte: call.received(), lent },
+            TICK => lists::Call::Tick { word, lent },
+            _ => lists::Call::Readings,
+        }
+    }
+
+    #[test]
+    fn the_digest_is_that_of_stored_lists() {
+        for index in 0..16 {
+            let list = list::plan(1, index);
+            let (calls, _) = list::calls_of(list);
+            let bytes: Vec<u8> = calls.iter().flat_map(Call::bytes).collect();
+            let stored: Vec<lists::Call> = calls.iter().map(stored).collect();
+            assert_eq!(replay::<Machine>(list.switch, &bytes), lists::play(list.switch, &stored));
+        }
+    }
 }

@@ -45,29 +45,6 @@ pub fn read_tick_line(line: &[u8]) -> Option<(u32, u32)> {
     }
 }
 
-/// Host end and program: n ticks with one input word; the sums of the signed pulses.
-fn run_ticks(machine: &mut Machine, n: u32, word: u32) -> [i64; 5] {
-    let mut sums = [0; 5];
-    for _ in 0..n {
-        let answer = machine.tick(word);
-        for (sum, pulse) in sums.iter_mut().zip(answer.pulses) {
-            *sum += pulse as i64;
-        }
-    }
-    sums
-}
-
-/// Host end and program: a line beginning with T prints the sums, or `?` where it has not the form.
-fn tick_line<W: Write>(machine: &mut Machine, line: &[u8], output: &mut W) -> io::Result<()> {
-    match read_tick_line(line) {
-        Some((n, word)) => {
-            let s = run_ticks(machine, n, word);
-            writeln!(output, "{} {} {} {} {}", s[0], s[1], s[2], s[3], s[4])
-        }
-        None => writeln!(output, "?"),
-    }
-}
-
 /// Host end and program: replies print with a line feed for 0D.
 fn print_reply<W: Write>(reply: &[u8], output: &mut W) -> io::Result<()> {
     for &character in reply {
@@ -75,6 +52,32 @@ fn print_reply<W: Write>(reply: &[u8], output: &mut W) -> io::Result<()> {
         output.write_all(&[printed])?;
     }
     Ok(())
+}
+
+/// Host end and program: n ticks with one input word; the sums of the signed pulses. Paper 02, 3/14: the block of a W
+/// line that comes in one of them is printed, before the sums are.
+fn run_ticks<W: Write>(machine: &mut Machine, n: u32, word: u32, output: &mut W) -> io::Result<[i64; 5]> {
+    let mut sums = [0; 5];
+    let mut buf = [0; LEAST_REPLY_BUFFER];
+    for _ in 0..n {
+        let answer = machine.tick(word, &mut buf);
+        print_reply(front(&buf, answer.len), output)?;
+        for (sum, pulse) in sums.iter_mut().zip(answer.pulses) {
+            *sum += pulse as i64;
+        }
+    }
+    Ok(sums)
+}
+
+/// Host end and program: a line beginning with T prints the sums, or `?` where it has not the form.
+fn tick_line<W: Write>(machine: &mut Machine, line: &[u8], output: &mut W) -> io::Result<()> {
+    match read_tick_line(line) {
+        Some((n, word)) => {
+            let s = run_ticks(machine, n, word, output)?;
+            writeln!(output, "{} {} {} {} {}", s[0], s[1], s[2], s[3], s[4])
+        }
+        None => writeln!(output, "?"),
+    }
 }
 
 /// Host end and program: any other line goes in with 0D for its line feed, and its replies are printed.

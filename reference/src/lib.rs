@@ -1,7 +1,8 @@
 //! Reference of the five-pump blending controller, written from paper 01 and, where that is silent, the manual; the
-//! journal from paper 02, 1/14, and the watch of power-on from 2/14.
+//! journal from paper 02, 1/14, the watch of power-on from 2/14, and the settled inputs of W lines from 3/14.
 //!
-//! Each rule is a small function; its comment names the section of paper 01 that holds the rule, the journal, or 2/14.
+//! Each rule is a small function; its comment names the section of paper 01 that holds the rule, the journal, or the
+//! request of paper 02.
 
 #![forbid(unsafe_code)]
 

@@ -2,6 +2,7 @@
 
 mod receive;
 mod replies;
+mod settle;
 mod start;
 mod status;
 mod stop;
@@ -10,8 +11,9 @@ mod travel;
 
 use crate::inputs::Inputs;
 use crate::journal::Entry;
+use settle::Settling;
 
-/// Turned away, 2: the least length of a reply buffer.
+/// Turned away, 2: the least length of a reply buffer, of a byte and (paper 02, 3/14) of a tick.
 pub const LEAST_REPLY_BUFFER: usize = 120;
 
 /// Turned away, 3: the first value that is no input word.
@@ -30,14 +32,16 @@ pub struct ByteAnswer {
     pub number: u8,
 }
 
-/// What a tick answers: five pulses, two words, the number of a waiting start that failed, or 0, and the entry of the
-/// move that ends in it, if one does.
+/// What a tick answers: five pulses, two words, the number of a waiting start that failed, or 0 (2 or 3 of a tick that
+/// is turned away), the entry of the move that ends in it, if one does, and the length of the block of a W line at the
+/// front of its lent buffer, 0 without one.
 #[derive(Clone, Copy, Debug, PartialEq, Eq)]
 pub struct TickAnswer {
     pub pulses: [i8; 5],
     pub words: [u32; 2],
     pub number: u8,
     pub entry: Option<Entry>,
+    pub len: usize,
 }
 
 /// Lines: the reply is the front part of the lent buffer; for a length past the buffer's end it is empty.
@@ -71,6 +75,8 @@ pub struct Machine {
     watch: u32,
     polarity: u32,
     general_outputs: u32,
+    /// The block of a W line that is still to come.
+    settling: Option<Settling>,
     /// The latest move, running or ended.
     latest: Distances,
     master: usize,
@@ -108,6 +114,7 @@ impl Machine {
             watch: 1,
             polarity: 0,
             general_outputs: 0,
+            settling: None,
             latest: Distances::default(),
             master: 0,
             travels: [0; 5],

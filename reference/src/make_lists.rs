@@ -14,6 +14,7 @@ mod refused_calls;
 mod refused_lines;
 mod refused_starts;
 mod sensor;
+mod settle;
 mod silence;
 mod stops_by_order;
 mod stored_starts;
@@ -52,6 +53,7 @@ pub fn lists_text() -> String {
     watched::watched(&mut text);
     silence::silence(&mut text);
     entries::entries(&mut text);
+    settle::settle(&mut text);
     drawn::drawn_lists(&mut text);
     other_forms::other_forms(&mut text);
     text.ended()

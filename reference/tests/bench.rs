@@ -94,7 +94,7 @@ fn empty_input_and_empty_lines() {
 #[test]
 fn a_0d_in_a_line_ends_a_line() {
     assert_eq!(bench(b"Q06\r\n"), "S0600000\nU0000004\n");
-    assert_eq!(bench(b"Q06\rW0\rT 1 000000\n"), "S0600000\nR0000000\nU0000004\n");
+    assert_eq!(bench(b"Q06\rW0\rT 1 000000\n"), "S0600000\nU0000004\n");
 }
 
 #[test]
@@ -118,4 +118,23 @@ fn everything_prints_twelve_lines() {
     assert_eq!(lines.len(), 13);
     assert_eq!(lines[1], "S00000007");
     assert_eq!(lines[12], "R0ABCDEF7");
+}
+
+#[test]
+fn a_block_is_printed_before_the_totals() {
+    assert_eq!(bench(b"W0ABCDEF1\nT 2499 000005\nT 1 123456\n"), "0 0 0 0 0\nR01234561\n0 0 0 0 0\n");
+    assert_eq!(bench(b"W0\nW4\nT 2500 000000\nT 2500 000000\n"), "0 0 0 0 0\n0 0 0 0 0\n");
+    assert_eq!(bench(b"W0\nT 1000000 abcdef\nT 2500 000000\n"), "R0ABCDEF\n0 0 0 0 0\n0 0 0 0 0\n");
+    assert_eq!(bench(b"W0\nT 1000 000001\nT 1000 000002\nT 501 000003"), "0 0 0 0 0\n0 0 0 0 0\nR0000003\n0 0 0 0 0\n");
+    assert_eq!(bench(b"W0\nT 2499 000000\nT 0 000000\nT 1 000009\n"), "0 0 0 0 0\n?\nR0000009\n0 0 0 0 0\n");
+    assert_eq!(bench(b"Q06\rW0FFFFFF2\nT 2500 00000a\n"), "S0600000\nR000000A2\n0 0 0 0 0\n");
+}
+
+/// The printed move ends in tick 207, with one pulse of each axis, before the block of the same T line.
+#[test]
+fn a_block_in_a_t_line_that_moves() {
+    let input = b"P0000001\nP0180001\nP08F4240\nP0900FFF\nW0\nQ080\nT 3000 000040\nW0\nq08\n";
+    let printed = bench(input);
+    assert!(printed.starts_with("U0000000\nU0000000\nU0000000\nU0000000\nS0800000\nR0000040\n1 -1 0 0 0\nS0000001\n"));
+    assert!(printed.ends_with("s0400000\nR0000040\n"));
 }

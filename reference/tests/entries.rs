@@ -4,20 +4,20 @@
 //! after n ticks takes n more, the last of them without a pulse, and all of them together grow the phase by a × n × n.
 
 mod common;
-use common::{accept, in_dwell, number, on, send, ticks, until_rest};
+use common::{accept, in_dwell, number, on, one_tick, send, ticks, until_rest};
 use reference::{Entry, Machine};
 
 /// A tick without an entry, n times.
 fn no_entry(machine: &mut Machine, n: u32, word: u32) {
     for tick in 1..=n {
-        assert_eq!(machine.tick(word).entry, None, "{tick}");
+        assert_eq!(one_tick(machine, word).entry, None, "{tick}");
     }
 }
 
 /// The entry comes in the tick after n that have none, and no other follows.
 fn entry_after(machine: &mut Machine, n: u32, word: u32, ticks: u64, cause: u8, travels: [i32; 5]) {
     no_entry(machine, n, word);
-    assert_eq!(machine.tick(word).entry, Some(Entry { ticks, cause, travels }));
+    assert_eq!(one_tick(machine, word).entry, Some(Entry { ticks, cause, travels }));
     let mut later = machine.clone();
     no_entry(&mut later, 300, word);
 }
@@ -112,7 +112,7 @@ fn a_stored_start_that_fails_has_no_entry() {
     let mut machine = in_dwell();
     accept(&mut machine, &["P0000000", "Q088"]);
     no_entry(&mut machine, 499, 0);
-    let answer = machine.tick(0);
+    let answer = one_tick(&mut machine, 0);
     assert_eq!((answer.number, answer.entry), (15, None));
     no_entry(&mut machine, 600, 0);
 }
@@ -123,7 +123,7 @@ fn a_stored_start_that_the_watch_stops_ends_in_its_own_tick() {
     until_rest(&mut machine, 0);
     accept(&mut machine, &["Q088"]);
     ticks(&mut machine, 4_000 * 250 - 1, 0);
-    assert_eq!(machine.tick(0).entry, Some(Entry { ticks: 1, cause: 1, travels: [0; 5] }));
+    assert_eq!(one_tick(&mut machine, 0).entry, Some(Entry { ticks: 1, cause: 1, travels: [0; 5] }));
 }
 
 #[test]

@@ -2,7 +2,7 @@
 
 mod common;
 use common::stopped::{stop_by_inputs, DISTANCES};
-use common::{accept, number, on, under_way, until_rest};
+use common::{accept, number, on, one_tick, under_way, until_rest};
 
 #[test]
 fn stop_by_limit() {
@@ -38,7 +38,7 @@ fn blocked_as_it_must_be(axis: u32, minus: bool, bit: u32, high_on: bool, level:
     let distance = format!("P0{axis}{}0001", if minus { 8 } else { 0 });
     let setting = format!("Q0{}{:05X}", if high_on { 'E' } else { 'D' }, 1 << bit);
     accept(&mut machine, &[&distance, &setting]);
-    machine.tick(if level { 1 << bit } else { 0xFFFFFF & !(1 << bit) });
+    one_tick(&mut machine, if level { 1 << bit } else { 0xFFFFFF & !(1 << bit) });
     let blocked = bit == own_bit(axis, minus, high_on) && level == high_on;
     assert_eq!(machine.status(), if blocked { 0x10 } else { 0 }, "{distance} {setting} {level}");
     assert_eq!(number(&mut machine, &format!("Q08{axis}")), if blocked { 16 } else { 0 });

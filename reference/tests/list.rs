@@ -14,10 +14,12 @@ fn run_line(machine: &mut Machine, followed: &mut Followed, line: &[u8]) {
     followed.byte(machine, 0x0D, 120);
 }
 
-/// One tick, after one that is turned away by 3.
-fn run_tick(machine: &mut Machine, followed: &mut Followed, word: u32) {
-    followed.tick(machine, word | 0x1000000);
-    followed.tick(machine, word);
+/// One tick, after some that are turned away: by 3, by 2, and by 2 though 3 holds too.
+fn run_tick(machine: &mut Machine, followed: &mut Followed, word: u32, lent: usize) {
+    followed.tick(machine, word | 0x1000000, lent);
+    followed.tick(machine, word, lent - 120);
+    followed.tick(machine, word | 0x1000000, 119);
+    followed.tick(machine, word, lent);
 }
 
 /// So many lines, with ticks after each.
@@ -33,26 +35,31 @@ fn run_list(seed: u64, lines: u32) -> Followed {
             word = (sequence.draw() | sequence.draw() | sequence.draw()) as u32 & 0xFFFFFF;
         }
         let longest_run = [20, 600, 6_000][sequence.below(3) as usize];
+        let lent = 120 + sequence.below(120) as usize;
         for _ in 0..sequence.below(longest_run) {
-            run_tick(&mut machine, &mut followed, word);
+            run_tick(&mut machine, &mut followed, word, lent);
         }
     }
     followed
 }
 
-/// Demand 3, and the entry of every move: ticks, cause and travels as the answers since its start tell them.
+/// Demand 3, and the entry of every move: ticks, cause and travels as the answers since its start tell them. The block
+/// of a W line in the 2,500th accepted tick after it, and in no other.
 #[test]
-fn lists_keep_demand_3_and_answer_entries() {
-    let (mut starts, mut moves) = (0, Vec::new());
-    for seed in 1..=40u64 {
+fn lists_keep_demand_3_and_answer_entries_and_blocks() {
+    let (mut starts, mut blocks, mut replaced, mut moves) = (0, 0, 0, Vec::new());
+    for seed in 1..=50u64 {
         let followed = run_list(seed.wrapping_mul(0x9E37_79B9_7F4A_7C15), 400);
         starts += followed.starts;
+        blocks += followed.settled.blocks;
+        replaced += followed.settled.replaced;
         moves.extend(followed.ended);
     }
     let whole = moves.iter().filter(|(_, entry)| entry.cause == 0).count();
     let stored = moves.iter().filter(|(ended, _)| ended.stored).count();
     let refused = moves.iter().filter(|(ended, entry)| ended.refused_ticks as u64 >= entry.ticks - 1).count();
     assert!(starts > 500 && whole > 200 && stored > 50, "{starts} {whole} {stored}");
+    assert!(blocks > 200 && replaced > 20, "{blocks} {replaced}");
     assert_eq!(refused, moves.len());
     assert!(moves.len() - whole > 100);
 }

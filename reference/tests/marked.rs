@@ -1,7 +1,7 @@
 //! Everything under "Marked".
 
 mod common;
-use common::{accept, number, on, send, ticks, until_rest};
+use common::{accept, number, on, one_tick, send, ticks, until_rest};
 use reference::share::share;
 use reference::Machine;
 
@@ -22,7 +22,7 @@ fn share_table_in_a_move() {
     let mut seen = Vec::new();
     while machine.status() & 2 != 0 {
         let before = machine.travels();
-        let answer = machine.tick(0);
+        let answer = one_tick(&mut machine, 0);
         if answer.pulses[2] != 0 {
             seen.push(machine.travels());
         }
@@ -38,7 +38,7 @@ fn first_pulse(slope: &str) -> u32 {
     let mut machine = on();
     accept(&mut machine, &["P00003E8", "P08F4240", slope, "Q080"]);
     let mut tick = 1;
-    while machine.tick(0).pulses == [0; 5] {
+    while one_tick(&mut machine, 0).pulses == [0; 5] {
         tick += 1;
     }
     tick

@@ -2,7 +2,7 @@
 
 mod common;
 use common::refused::refused;
-use common::{accept, line, number, on, status_after, ticks, until_rest};
+use common::{accept, line, number, on, one_tick, status_after, ticks, until_rest};
 use reference::{front, watch_off_line, Machine};
 
 const FULL: u32 = 1_000_000;
@@ -113,7 +113,7 @@ fn ticks_turned_away_do_not_count() {
     let mut machine = long_move(0, &[]);
     ticks(&mut machine, FULL - 2, 0);
     for _ in 0..100 {
-        assert_eq!(machine.tick(0x0100_0000).number, 3);
+        assert_eq!(one_tick(&mut machine, 0x0100_0000).number, 3);
     }
     assert_eq!(status_after(&mut machine, 1, 0), 3);
     assert_eq!(status_after(&mut machine, 1, 0), 0xB);
@@ -125,7 +125,7 @@ fn general_outputs_stay_and_rest_has_no_stop() {
     let mut machine = on();
     accept(&mut machine, &["W0FFFFFF"]);
     for _ in 0..FULL + 10 {
-        assert_eq!(machine.tick(0).words, [0xFFFC00; 2]);
+        assert_eq!(one_tick(&mut machine, 0).words, [0xFFFC00; 2]);
     }
     assert_eq!(machine.status(), 0);
     accept(&mut machine, &["P0000002", "Q080"]);

@@ -1,7 +1,7 @@
 //! Ramp: boundaries of its rules, and pulse ticks worked out apart from this code with unbounded integers.
 
 mod common;
-use common::{accept, on};
+use common::{accept, on, one_tick};
 use reference::ramp::{advance, approach, remaining, running_speed, slow_down, stopping_tick, RampTick};
 use reference::Machine;
 
@@ -57,7 +57,7 @@ fn pulse_ticks(machine: &mut Machine, changes: &[(u32, &str)]) -> (Vec<u32>, u32
             accept(machine, &[text]);
         }
         count += 1;
-        if machine.tick(0).pulses[0] != 0 {
+        if one_tick(machine, 0).pulses[0] != 0 {
             ticks.push(count);
         }
     }

@@ -1,8 +1,8 @@
 //! Numbers 1 to 3: switches, lent buffers and input words.
 
 mod common;
-use common::{on, send, under_way};
-use reference::Machine;
+use common::{on, one_tick, send, under_way};
+use reference::{Machine, TickAnswer};
 
 #[test]
 fn number_1() {
@@ -36,16 +36,38 @@ fn number_2() {
     assert_eq!(send(&mut machine, "6"), "S0600000");
 }
 
+/// A tick that is turned away with this number: pulses and words 0, no entry, no block, nothing altered.
+fn refused_tick(machine: &mut Machine, word: u32, lent: usize, number: u8) {
+    let before = machine.clone();
+    let mut buf = vec![0xAA; lent];
+    let answer = machine.tick(word, &mut buf);
+    assert_eq!(answer, TickAnswer { pulses: [0; 5], words: [0, 0], number, entry: None, len: 0 });
+    assert_eq!(*machine, before);
+    assert!(buf.iter().all(|&kept| kept == 0xAA));
+}
+
+#[test]
+fn number_2_of_a_tick() {
+    let mut machine = under_way(0);
+    send(&mut machine, "W0FFFFFF");
+    for lent in [0, 1, 9, 119] {
+        for word in [0, 5, 16_777_215, 16_777_216, u32::MAX] {
+            refused_tick(&mut machine, word, lent, 2);
+        }
+    }
+    assert_eq!(machine.tick(5, &mut [0; 120]).number, 0);
+    assert!(send(&mut machine, "q08").ends_with("R0000005"));
+}
+
 #[test]
 fn number_3() {
     let mut machine = under_way(0);
     send(&mut machine, "W0FFFFFF");
     for word in [16_777_216, 16_777_217, u32::MAX] {
-        let before = machine.clone();
-        let answer = machine.tick(word);
-        assert_eq!((answer.pulses, answer.words, answer.number, answer.entry), ([0; 5], [0, 0], 3, None));
-        assert_eq!(machine, before);
+        for lent in [120, 121, 4_096] {
+            refused_tick(&mut machine, word, lent, 3);
+        }
     }
-    assert_eq!(machine.tick(16_777_215).number, 0);
-    assert_eq!(send(&mut machine, "W0"), "R0FFFFFF");
+    assert_eq!(one_tick(&mut machine, 16_777_215).number, 0);
+    assert!(send(&mut machine, "q08").ends_with("R0FFFFFF"));
 }

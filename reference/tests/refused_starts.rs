@@ -2,13 +2,13 @@
 
 mod common;
 use common::refused::refused;
-use common::{accept, number, on, send, ticks, until_rest};
+use common::{accept, number, on, one_tick, send, ticks, until_rest};
 
 #[test]
 fn number_12() {
     let mut machine = on();
     accept(&mut machine, &["P0000005", "Q0D01000"]);
-    machine.tick(0);
+    one_tick(&mut machine, 0);
     assert_eq!(refused(&mut machine, b"Q080", 12), "U000000C");
     assert_eq!(refused(&mut machine, b"Q0880000A", 12), "U000000CA");
 }
@@ -19,7 +19,7 @@ fn number_13() {
     accept(&mut machine, &["P0000005", "Q0D02000"]);
     assert_eq!(number(&mut machine, "Q080"), 13);
     assert_eq!(refused(&mut machine, b"Q080", 13), "U000000D");
-    machine.tick(0x2000);
+    one_tick(&mut machine, 0x2000);
     assert_eq!(number(&mut machine, "Q080"), 0);
 }
 
@@ -53,7 +53,7 @@ fn number_16() {
     accept(&mut machine, &["P0000005", "Q0D00002"]);
     assert_eq!(refused(&mut machine, b"Q080", 16), "U0000010");
     assert_eq!(machine.status(), 0x10);
-    machine.tick(2);
+    one_tick(&mut machine, 2);
     assert_eq!(machine.status(), 0);
     assert_eq!(number(&mut machine, "Q080"), 0);
 }

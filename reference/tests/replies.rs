@@ -1,7 +1,7 @@
 //! Replies.
 
 mod common;
-use common::{accept, on, replies, send, ticks, under_way, until_rest};
+use common::{accept, on, one_tick, replies, send, ticks, under_way, until_rest};
 use reference::{front, Machine};
 
 #[test]
@@ -91,14 +91,15 @@ fn readings_take_any_further_digits() {
     replies(&mut on(), &pairs);
 }
 
+/// Paper 02, 3/14; what comes 2,500 ticks later is in `settle`.
 #[test]
-fn w_answers_the_last_inputs() {
+fn w_answers_nothing_at_once() {
     let mut machine = on();
-    assert_eq!(send(&mut machine, "W0"), "R0000000");
+    assert_eq!(send(&mut machine, "W0"), "");
     ticks(&mut machine, 1, 0xBB8001);
-    replies(&mut machine, &[("W0abcdef", "R0BB8001"), ("W0ABCDEF9", "R0BB80019"), ("W4000000", "")]);
-    assert_eq!(machine.tick(0).words, [0, 0]);
-    assert_eq!(send(&mut machine, "W0"), "R0000000");
+    replies(&mut machine, &[("W0abcdef", ""), ("W0ABCDEF9", ""), ("W4000000", "")]);
+    assert_eq!(one_tick(&mut machine, 0).words, [0, 0]);
+    replies(&mut machine, &[("W0", ""), ("W01", "U0000009"), ("W41", "")]);
 }
 
 #[test]
@@ -119,7 +120,7 @@ fn readings_do_not_alter_a_move() {
     let mut other = one.clone();
     while one.status() & 2 != 0 {
         accept(&mut one, &["q08", "Q06", "Q00", "W0"]);
-        assert_eq!(one.tick(0), other.tick(0));
+        assert_eq!(one_tick(&mut one, 0), one_tick(&mut other, 0));
     }
     assert_eq!(one.travels(), other.travels());
 }
@@ -130,7 +131,7 @@ fn a_line_may_take_any_time() {
     let mut buf = [0; 120];
     for byte in *b"Q06" {
         assert_eq!(machine.byte(byte, &mut buf).len, 0);
-        machine.tick(0);
+        one_tick(&mut machine, 0);
     }
     assert_eq!(machine.byte(0x0D, &mut buf).len, 9);
     assert_eq!(front(&buf, 9), b"S0600000\x0D");

@@ -2,7 +2,7 @@
 
 mod common;
 use common::stopped::{stop_by_inputs, stopped_short, DISTANCES};
-use common::{accept, assert_shares, number, on, send, status_after, ticks, under_way, until_rest};
+use common::{accept, assert_shares, number, on, one_tick, send, status_after, ticks, under_way, until_rest};
 
 #[test]
 fn stop_by_order() {
@@ -30,7 +30,7 @@ fn stop_before_the_first_tick_ends_without_a_pulse() {
     let mut machine = on();
     accept(&mut machine, &["P0000005", "Q080", "Q09"]);
     assert_eq!(machine.status(), 0x0B);
-    assert_eq!(machine.tick(0).pulses, [0; 5]);
+    assert_eq!(one_tick(&mut machine, 0).pulses, [0; 5]);
     assert_eq!(machine.status(), 8);
     assert_eq!(machine.travels(), [0; 5]);
 }
@@ -106,7 +106,7 @@ fn emergency_is_held_in_a_tick_only() {
     accept(&mut machine, &["P0000005", "Q0D01000"]);
     assert_eq!(machine.status(), 0);
     assert_eq!(number(&mut machine, "Q080"), 0);
-    assert_eq!(machine.tick(0).pulses, [0; 5]);
+    assert_eq!(one_tick(&mut machine, 0).pulses, [0; 5]);
     assert_eq!(machine.status(), 0x20);
 }
 
@@ -116,7 +116,7 @@ fn speed_changes_under_way_keep_shares() {
     for setting in ["P0800064", "P08F4240", "P0807A12", "P0800001", "P0830D40"] {
         accept(&mut machine, &[setting]);
         for _ in 0..300 {
-            machine.tick(0);
+            one_tick(&mut machine, 0);
             assert_shares(machine.travels(), DISTANCES, 0);
         }
     }
@@ -130,7 +130,7 @@ fn without_a_stop_all_axes_send_their_last_pulse_in_one_tick() {
     accept(&mut machine, &["P0000007", "P018000B", "P0200001", "P030000B", "P08F4240", "P0900FFF", "Q083"]);
     let mut last = [0; 5];
     while machine.status() & 2 != 0 {
-        last = machine.tick(0).pulses;
+        last = one_tick(&mut machine, 0).pulses;
     }
     assert_eq!(last, [1, -1, 1, 1, 0]);
     assert_eq!(machine.travels(), [7, 11, 1, 11, 0]);

@@ -48,9 +48,9 @@ impl Met {
     }
 
     /// One tick.
-    fn tick(&mut self, machine: &mut Machine, word: u32) {
+    fn tick(&mut self, machine: &mut Machine, word: u32, lent: u8) {
         let before = machine.status();
-        let answer = machine.tick(word);
+        let answer = machine.tick(word, &mut [0; 255][..lent as usize]);
         let after = machine.status();
         self.ticks.insert(answer.number);
         self.status |= after;
@@ -81,7 +81,8 @@ impl Met {
         for &call in calls {
             match call {
                 Call::Byte { byte, lent } => self.byte(&mut machine, &mut line, byte, lent),
-                Call::Ticks { count, word } => (0..count).for_each(|_| self.tick(&mut machine, word)),
+                Call::Ticks { count, word } => (0..count).for_each(|_| self.tick(&mut machine, word, 120)),
+                Call::Tick { word, lent } => self.tick(&mut machine, word, lent),
                 Call::Readings => self.status |= machine.status(),
             }
         }
@@ -110,7 +111,7 @@ fn stored_lists_reach_every_number_and_cause() {
     assert!(met.replied.iter().copied().eq([0, 2].into_iter().chain(4..=17)));
     // A second character 4 is never number 6.
     assert!(met.silent.iter().copied().eq([0, 4, 5].into_iter().chain(7..=17)));
-    assert!(met.ticks.iter().copied().eq([0, 3].into_iter().chain(12..=17)));
+    assert!(met.ticks.iter().copied().eq([0, 2, 3].into_iter().chain(12..=17)));
     assert!([0, 1, 119, 120, 121, 255].iter().all(|lent| met.lent.contains(lent)));
     assert!(met.lengths.iter().eq([0, 9, 10, 108, 120].iter()));
     assert_eq!(met.status, 0x7F);

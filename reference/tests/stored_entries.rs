@@ -1,39 +1,13 @@
 //! Stored inputs: the entries that the stored lists reach, each followed from the answers of its ticks.
 
 mod common;
-use common::followed::{Followed, Move};
-use reference::lists::{Call, List};
-use reference::make_lists::lists_text;
-use reference::{Entry, Machine};
-
-/// One list for one switch; the moves that ended in it.
-fn ended(switch: u8, calls: &[Call]) -> Vec<(Move, Entry)> {
-    let mut machine = Machine::power_on(switch).0;
-    let mut followed = Followed::default();
-    for &call in calls {
-        match call {
-            Call::Byte { byte, lent } => {
-                followed.byte(&mut machine, byte, lent as usize);
-            }
-            Call::Ticks { count, word } => (0..count).for_each(|_| followed.tick(&mut machine, word)),
-            Call::Readings => {}
-        }
-    }
-    followed.ended
-}
+use common::followed::Move;
+use common::stored_lists::{followed, stored_lists};
+use reference::Entry;
 
 /// The moves that end in the stored lists, each list for its first switch.
 fn stored_moves() -> Vec<(Move, Entry)> {
-    let mut list = List::default();
-    let mut moves = Vec::new();
-    for line in lists_text().lines() {
-        if line == "E" {
-            moves.extend(ended(list.first, &list.calls));
-        } else {
-            list.take_line(line.as_bytes());
-        }
-    }
-    moves
+    stored_lists().iter().flat_map(|(_, list)| followed(list).ended).collect()
 }
 
 /// How many moves of the stored lists have this of them.

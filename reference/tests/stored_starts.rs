@@ -1,7 +1,7 @@
 //! Stored starts: those that take effect as the dwell runs out, and those that fail.
 
 mod common;
-use common::{accept, in_dwell, number, on, send, status_after, ticks, until_rest};
+use common::{accept, in_dwell, number, on, one_tick, send, status_after, ticks, until_rest};
 use reference::Machine;
 
 #[test]
@@ -16,7 +16,7 @@ fn a_stored_start_begins_in_the_tick_that_ends_the_dwell() {
     assert_eq!((status_after(&mut machine, 1, 0), machine.travels()[0]), (3, 0));
     assert_eq!(status_after(&mut plain, 1, 0), 3);
     while plain.status() & 2 != 0 {
-        assert_eq!(plain.tick(0), machine.tick(0));
+        assert_eq!(one_tick(&mut plain, 0), one_tick(&mut machine, 0));
         assert_eq!((plain.status(), plain.travels()), (machine.status(), machine.travels()));
     }
 }
@@ -63,7 +63,7 @@ fn fails(line: &str, word: u32, wanted: u8) -> Machine {
     accept(&mut machine, &[line, "Q088"]);
     ticks(&mut machine, 499, word);
     let travels = machine.travels();
-    let answer = machine.tick(word);
+    let answer = one_tick(&mut machine, word);
     assert_eq!((answer.pulses, answer.number), ([0; 5], wanted));
     assert_eq!(machine.status() & 3, 0);
     assert_eq!(machine.travels(), travels);
@@ -94,7 +94,7 @@ fn emergency_in_the_tick_that_ends_the_dwell_fails_the_start() {
     let mut machine = in_dwell();
     accept(&mut machine, &["Q0E01000", "Q088"]);
     ticks(&mut machine, 499, 0);
-    assert_eq!(machine.tick(0x1000).number, 12);
+    assert_eq!(one_tick(&mut machine, 0x1000).number, 12);
     assert_eq!(machine.status(), 0x20);
 }
 

@@ -106,40 +106,64 @@ impl Silence {
     }
 
     fn tick(&mut self, number: u8) {
-        self.0 += u32::from(number != 3);
+        self.0 += u32::from(number != 2 && number != 3);
+    }
+}
+
+/// Two controllers from power-on, one of which got P0B0, the silence of their line, and what it came to.
+struct Both {
+    watched: Machine,
+    off: Machine,
+    silence: Silence,
+    full: bool,
+    decided: bool,
+}
+
+impl Both {
+    fn byte(&mut self, byte: u8, lent: u8) {
+        let (mut lent_watched, mut lent_off) = (vec![0; lent as usize], vec![0; lent as usize]);
+        let answer = self.watched.byte(byte, &mut lent_watched);
+        self.decided |= (self.off.byte(byte, &mut lent_off), &lent_off) != (answer, &lent_watched);
+        self.silence.byte(byte, answer.number);
+    }
+
+    fn tick(&mut self, word: u32, lent: u8) {
+        let (mut lent_watched, mut lent_off) = ([0; 255], [0; 255]);
+        let answer = self.watched.tick(word, &mut lent_watched[..lent as usize]);
+        self.decided |= (self.off.tick(word, &mut lent_off[..lent as usize]), lent_off) != (answer, lent_watched);
+        self.silence.tick(answer.number);
+        self.full |= self.silence.0 >= FULL;
     }
 }
 
 /// One list for its first switch, on a controller from power-on and on one that got P0B0: did the silence reach a full
 /// count, and did the two ever answer or read differently?
 fn full_and_decided(list: &List) -> (bool, bool) {
-    let mut watched = Machine::power_on(list.first).0;
+    let watched = Machine::power_on(list.first).0;
     let mut off = watched.clone();
     accept(&mut off, &["P0B0"]);
-    let (mut silence, mut full, mut decided) = (Silence::default(), false, false);
+    let mut both = Both { watched, off, silence: Silence::default(), full: false, decided: false };
     for &call in &list.calls {
         match call {
-            Call::Byte { byte, lent } => {
-                let (mut lent_watched, mut lent_off) = (vec![0; lent as usize], vec![0; lent as usize]);
-                let answer = watched.byte(byte, &mut lent_watched);
-                decided |= (off.byte(byte, &mut lent_off), &lent_off) != (answer, &lent_watched);
-                silence.byte(byte, answer.number);
-            }
-            Call::Ticks { count, word } => (0..count).for_each(|_| {
-                let answer = watched.tick(word);
-                decided |= off.tick(word) != answer;
-                silence.tick(answer.number);
-                full |= silence.0 >= FULL;
-            }),
-            Call::Readings => decided |= reading(&watched) != reading(&off),
+            Call::Byte { byte, lent } => both.byte(byte, lent),
+            Call::Ticks { count, word } => (0..count).for_each(|_| both.tick(word, 120)),
+            Call::Tick { word, lent } => both.tick(word, lent),
+            Call::Readings => both.decided |= reading(&both.watched) != reading(&both.off),
         }
     }
-    (full, decided)
+    (both.full, both.decided)
 }
 
 /// Headings of the lists that fill the count though the power-on watch decides nothing: they set the watch themselves.
-const SET_BY_LINES: [&str; 6] =
-    ["Watch 3", "Watch 1", "P0B0 first: the", "P0B0 first, least", "P0B00000 first", "P4B0 first"];
+const SET_BY_LINES: [&str; 7] = [
+    "Watch 3",
+    "Watch 1",
+    "P0B0 first: the",
+    "P0B0 first, least",
+    "P0B00000 first",
+    "P4B0 first",
+    "Settled inputs: the watch clears",
+];
 
 /// Headings of the lists that the power-on watch decides.
 const DECIDED: [&str; 6] = [

@@ -1,7 +1,7 @@
 //! Watch.
 
 mod common;
-use common::{accept, line, number, on, status_after, ticks};
+use common::{accept, line, number, on, one_tick, status_after, ticks};
 use reference::Machine;
 
 const FULL: u32 = 1_000_000;
@@ -18,7 +18,7 @@ fn with_outputs(watch: &[&str]) -> Machine {
 }
 
 fn outputs_on(machine: &mut Machine) -> bool {
-    machine.clone().tick(0).words[1] & 0xFFFC00 == 0xFFFC00
+    one_tick(&mut machine.clone(), 0).words[1] & 0xFFFC00 == 0xFFFC00
 }
 
 #[test]
@@ -26,13 +26,13 @@ fn watch_bit_1_clears_the_general_outputs() {
     for (watch, cleared) in WATCHES.iter().zip([false, false, true, true]) {
         let mut machine = with_outputs(watch);
         for _ in 0..FULL - 1 {
-            assert_eq!(machine.tick(0).words, [0xFFFC00; 2]);
+            assert_eq!(one_tick(&mut machine, 0).words, [0xFFFC00; 2]);
         }
         let word = if cleared { 0 } else { 0xFFFC00 };
-        assert_eq!(machine.tick(0).words, [word; 2]);
-        assert_eq!(machine.tick(0).words, [word; 2]);
+        assert_eq!(one_tick(&mut machine, 0).words, [word; 2]);
+        assert_eq!(one_tick(&mut machine, 0).words, [word; 2]);
         accept(&mut machine, &["W0ABCDEF"]);
-        assert_eq!(machine.tick(0).words, [0xABCC00; 2]);
+        assert_eq!(one_tick(&mut machine, 0).words, [0xABCC00; 2]);
     }
 }
 
@@ -87,10 +87,10 @@ fn a_refused_tick_does_not_raise_the_count() {
     let mut machine = with_outputs(&["P0B2"]);
     ticks(&mut machine, FULL - 2, 0);
     for _ in 0..10 {
-        assert_eq!(machine.tick(u32::MAX).number, 3);
+        assert_eq!(one_tick(&mut machine, u32::MAX).number, 3);
     }
-    assert_eq!(machine.tick(0).words, [0xFFFC00; 2]);
-    assert_eq!(machine.tick(0).words, [0; 2]);
+    assert_eq!(one_tick(&mut machine, 0).words, [0xFFFC00; 2]);
+    assert_eq!(one_tick(&mut machine, 0).words, [0; 2]);
 }
 
 #[test]

@@ -1,7 +1,7 @@
 //! Output words of all four switch groups.
 
 mod common;
-use common::accept;
+use common::{accept, one_tick};
 use reference::Machine;
 use std::ops::RangeInclusive;
 
@@ -9,14 +9,14 @@ use std::ops::RangeInclusive;
 fn words(switch: u8, polarity: &str, outputs: &str) -> [[u32; 2]; 4] {
     let mut machine = Machine::power_on(switch).0;
     accept(&mut machine, &["P0000001", "P0180001", "P0280000", "P0900FFF", "P08F4240", polarity, outputs]);
-    let before = machine.tick(0).words;
+    let before = one_tick(&mut machine, 0).words;
     accept(&mut machine, &["Q080"]);
-    let under_way = machine.tick(0).words;
+    let under_way = one_tick(&mut machine, 0).words;
     loop {
-        let answer = machine.tick(0);
+        let answer = one_tick(&mut machine, 0);
         if answer.pulses != [0; 5] {
             assert_eq!(answer.pulses, [1, -1, 0, 0, 0]);
-            return [before, under_way, answer.words, machine.tick(0).words];
+            return [before, under_way, answer.words, one_tick(&mut machine, 0).words];
         }
         assert_eq!(answer.words, under_way);
     }
@@ -70,20 +70,20 @@ fn polarity_bits_10_and_11_move_no_line() {
 fn direction_is_the_latest_moves_not_the_next_ones() {
     let mut machine = Machine::power_on(0).0;
     accept(&mut machine, &["P0080001"]);
-    assert_eq!(machine.tick(0).words, [0, 0]);
+    assert_eq!(one_tick(&mut machine, 0).words, [0, 0]);
     accept(&mut machine, &["Q080", "Q09"]);
-    assert_eq!(machine.tick(0).words, [2, 2]);
+    assert_eq!(one_tick(&mut machine, 0).words, [2, 2]);
     accept(&mut machine, &["P0000001"]);
-    assert_eq!(machine.tick(0).words, [2, 2]);
+    assert_eq!(one_tick(&mut machine, 0).words, [2, 2]);
     accept(&mut machine, &["Q080"]);
-    assert_eq!(machine.tick(0).words, [0, 0]);
+    assert_eq!(one_tick(&mut machine, 0).words, [0, 0]);
 }
 
 #[test]
 fn general_outputs_under_pump_lines_are_hidden() {
     let mut machine = Machine::power_on(8).0;
     accept(&mut machine, &["W00FFFFF"]);
-    assert_eq!(machine.tick(0).words, [0x0AAAAA; 2]);
+    assert_eq!(one_tick(&mut machine, 0).words, [0x0AAAAA; 2]);
     accept(&mut machine, &["W0F00000"]);
-    assert_eq!(machine.tick(0).words, [0xFAAAAA; 2]);
+    assert_eq!(one_tick(&mut machine, 0).words, [0xFAAAAA; 2]);
 }

@@ -13,6 +13,17 @@ pub struct Called {
     calls: Vec<Call>,
 }
 
+/// The length of a buffer that is too short, often by one byte.
+fn short(random: &mut Random) -> usize {
+    let least = LEAST_REPLY_BUFFER as u32;
+    (if random.chance(30) { least - 1 } else { random.below(least) }) as usize
+}
+
+/// The length of a buffer that takes every reply.
+fn long(random: &mut Random) -> usize {
+    random.between(LEAST_REPLY_BUFFER as u32, LONGEST_LENT as u32) as usize
+}
+
 impl Called {
     pub fn new(switch: u8, ticks: u32) -> Called {
         Called { stand: Stand::new(switch, ticks), calls: Vec::new() }
@@ -23,6 +34,8 @@ impl Called {
         (self.calls, self.stand.seen())
     }
 
+    // Bytes.
+
     /// One byte with one lent buffer; its number.
     fn give(&mut self, byte: u8, lent: usize) -> u8 {
         self.calls.push(Call::byte(byte, lent));
@@ -32,16 +45,15 @@ impl Called {
 
     /// A byte that meets a short buffer is mostly given again, and at times lost.
     fn receive(&mut self, random: &mut Random, byte: u8) -> u8 {
-        let least = LEAST_REPLY_BUFFER as u32;
         if random.below(200) == 0 {
-            let short = if random.chance(30) { least - 1 } else { random.below(least) };
-            self.give(byte, short as usize);
+            let lent = short(random);
+            self.give(byte, lent);
             if random.chance(5) {
                 return 2;
             }
         }
-        let lent = if random.chance(70) { least } else { random.between(least, LONGEST_LENT as u32) };
-        self.give(byte, lent as usize)
+        let lent = if random.chance(70) { LEAST_REPLY_BUFFER } else { long(random) };
+        self.give(byte, lent)
     }
 
     /// The host's first line (paper 02, 2/14); whether it is accepted.
@@ -49,14 +61,49 @@ impl Called {
         watch_off_line().map(|byte| self.receive(random, byte)) == [0; 5]
     }
 
+    // Ticks and readings.
+
+    /// Ticks in one call, which lends the least buffer.
+    fn ticks(&mut self, count: u32, word: u32) {
+        self.calls.push(Call::ticks(count, word));
+        self.stand.ticks(count, word, &mut [0; LEAST_REPLY_BUFFER]);
+    }
+
+    /// One tick with one lent buffer, if one is left.
+    fn tick(&mut self, word: u32, lent: usize) {
+        if self.ticks_left() > 0 {
+            self.calls.push(Call::tick(word, lent));
+            let mut buffer = [0; LONGEST_LENT];
+            self.stand.ticks(1, word, &mut buffer[..lent]);
+        }
+    }
+
+    /// A tick with a buffer of its own. One that meets a short buffer is mostly given again, and at times lost.
+    fn single_tick(&mut self, random: &mut Random, word: u32) {
+        if random.chance(30) {
+            self.tick(word, short(random));
+            if random.chance(5) {
+                return;
+            }
+        }
+        self.tick(word, long(random));
+    }
+
     fn readings(&mut self) {
         self.calls.push(Call::READINGS);
         self.stand.readings();
     }
 
+    /// Over-large words, at times with a buffer of any length.
     fn over_large(&mut self, random: &mut Random) {
         let any = random.between(INPUT_WORD_END, u32::MAX);
-        self.run(random.spread(20), random.pick(&[INPUT_WORD_END, u32::MAX, any, any]));
+        let word = random.pick(&[INPUT_WORD_END, u32::MAX, any, any]);
+        if random.chance(30) {
+            self.tick(word, random.below(LONGEST_LENT as u32 + 1) as usize);
+        } else {
+            let count = random.spread(20);
+            self.run(random, count, word);
+        }
     }
 }
 
@@ -72,10 +119,17 @@ impl Bench for Called {
         self.receive(random, LINE_END)
     }
 
-    fn run(&mut self, count: u32, word: u32) {
+    /// At times the last tick has a buffer of its own.
+    fn run(&mut self, random: &mut Random, count: u32, word: u32) {
         let count = count.min(self.ticks_left());
-        self.calls.push(Call::ticks(count, word));
-        self.stand.ticks(count, word);
+        if count == 0 || random.chance(80) {
+            self.ticks(count, word);
+            return;
+        }
+        if count > 1 {
+            self.ticks(count - 1, word);
+        }
+        self.single_tick(random, word);
     }
 
     /// Readings, over-large words, no ticks at all.
@@ -83,7 +137,7 @@ impl Bench for Called {
         match random.below(10) {
             0..=4 => self.readings(),
             5..=8 => self.over_large(random),
-            _ => self.run(0, random.below(INPUT_WORD_END)),
+            _ => self.ticks(0, random.below(INPUT_WORD_END)),
         }
     }
 }

@@ -44,7 +44,7 @@ impl Typed {
     fn tick_line(&mut self, line: &[u8]) {
         self.keep(line);
         if let Some((count, word)) = read_tick_line(line) {
-            self.stand.ticks(count, word);
+            self.stand.ticks(count, word, &mut [0; LEAST_REPLY_BUFFER]);
         }
     }
 
@@ -79,7 +79,7 @@ impl Bench for Typed {
         self.receive(&line)
     }
 
-    fn run(&mut self, count: u32, word: u32) {
+    fn run(&mut self, _: &mut Random, count: u32, word: u32) {
         let mut left = count.min(self.ticks_left());
         while left > 0 {
             let part = left.min(MOST_TICKS);
@@ -94,7 +94,7 @@ impl Bench for Typed {
         if random.chance(70) {
             self.odd_tick_line(random);
         } else {
-            let line = random.pick(&[b"Q06\rQ0".as_slice(), b"q08\r", b"\r\r", b"P0B0\rT 1 000000"]);
+            let line = random.pick(&[b"Q06\rQ0".as_slice(), b"q08\r", b"\r\r", b"P0B0\rT 1 000000", b"W0\rW0ABCDEF3"]);
             self.send(random, line);
         }
     }

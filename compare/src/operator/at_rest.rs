@@ -45,6 +45,8 @@ impl Operator {
             56 => self.start_too_far(bench),
             57..=58 if self.time_for_silence(bench) => self.watched(bench),
             59 if self.time_for_silence(bench) => self.stored_past_watch(bench),
+            60..=61 => self.settle(bench),
+            62 => self.settle_in_dwell(bench),
             _ => self.start_move(bench),
         }
         self.run_some(bench, 20);
@@ -54,7 +56,7 @@ impl Operator {
     fn alarm_at_rest<B: Bench>(&mut self, bench: &mut B) {
         let word = self.alarm_word();
         let count = self.random.between(1, 5);
-        bench.run(count, word);
+        bench.run(&mut self.random, count, word);
         self.order(bench, line::start(self.master));
     }
 

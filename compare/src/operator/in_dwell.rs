@@ -7,7 +7,7 @@ use reference::machine::TICKS_PER_MS;
 
 impl Operator {
     pub(super) fn in_dwell<B: Bench>(&mut self, bench: &mut B) {
-        match self.random.below(20) {
+        match self.random.below(21) {
             0..=8 => self.store_start(bench),
             9..=11 => self.start_move(bench),
             12 => {
@@ -17,6 +17,8 @@ impl Operator {
             14 => self.mistake(bench),
             15 => self.read(bench),
             16 => bench.oddity(&mut self.random),
+            17 => self.settle(bench),
+            18 => self.settle_beside_start(bench),
             _ => {}
         }
         self.run_dwell(bench);
@@ -51,7 +53,7 @@ impl Operator {
             3..=4 => {
                 let word = self.alarm_word();
                 self.run_calm(bench, whole.saturating_sub(2));
-                bench.run(3, word);
+                bench.run(&mut self.random, 3, word);
             }
             _ => self.run_calm(bench, whole.max(1)),
         }

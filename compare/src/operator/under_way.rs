@@ -23,6 +23,8 @@ impl Operator {
             24..=28 => bench.oddity(&mut self.random),
             29..=31 => self.watch_under_way(bench),
             32..=43 if !self.leave_whole => self.stop(bench),
+            44 => self.settle(bench),
+            45..=47 => self.settle_beside(bench),
             _ => {}
         }
         if self.patience == 0 {
@@ -41,7 +43,7 @@ impl Operator {
             _ => {
                 let word = self.alarm_word();
                 let count = self.random.spread(200);
-                bench.run(count, word);
+                bench.run(&mut self.random, count, word);
             }
         }
     }

@@ -83,8 +83,8 @@ mod tests {
         let before: Machine = replay::run(0, single.before.bytes()).machine;
         let mut after = before.clone();
         if single.call.kind == TICKS {
-            let answer = after.tick(single.call.value);
-            return (before, after, answer.pulses.to_vec(), 0, answer.number);
+            let answer = after.tick(single.call.value, &mut [0; LENT]);
+            return (before, after, answer.pulses.to_vec(), answer.len, answer.number);
         }
         let answer = after.byte(single.call.received(), &mut [0; LENT]);
         (before, after, Vec::new(), answer.len, answer.number)
@@ -102,6 +102,7 @@ mod tests {
         let (before, after, pulses, ..) = done(3);
         assert_eq!([before.status() & STOPPED, after.status() & (STOPPED | MOVING)], [0, STOPPED | MOVING]);
         assert_eq!(pulses, [1, -1, 1, -1, 1]);
+        assert_eq!([0, 1, 2, 3].map(|at| done(at).3), [0; 4]);
     }
 
     #[test]

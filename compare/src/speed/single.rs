@@ -43,7 +43,7 @@ fn by_lists(replay: Replayed, lists: &[Calls; 2]) -> f64 {
 /// One call of the reference machine, its answer made and not counted.
 fn answer(machine: &mut Machine, call: Call, lent: &mut [u8]) {
     if call.kind == TICKS {
-        black_box(machine.tick(black_box(call.value)));
+        black_box(machine.tick(black_box(call.value), lent));
     } else {
         black_box(machine.byte(black_box(call.received()), lent));
     }
@@ -109,10 +109,10 @@ fn notes() -> String {
 Each call is that very one, after the calls that lead to it from power-on. Library and reference: the least of {RUNS}
 runs of the list that ends with the call, less the least of {RUNS} runs of the list without it (of a tick: with a call
 of no ticks in its place), the two in turn; a run replays its list {TIMES} times. The digest of the answer is included
-(of `q08` 108 bytes of reply), and of a byte what clears the {LENT} bytes lent. Call alone: the least of {RUNS} runs of
-the reference's call on {TIMES} copies of its machine, less the least of timing nothing; no digest. Each figure is the
-median of {TURNS} such turns, by the clock on the wall. A list takes some µs, so a busy machine shows: 10 to 30 ns of a
-figure may be noise. Compare figures of one run only. In the least run the processor foresees the branches: a call
-that comes once in a while may cost more."
+(of `q08` 108 bytes of reply), and of a byte what clears the {LENT} bytes lent; no tick here has a W line's block, which
+is still to come in all of them. Call alone: the least of {RUNS} runs of the reference's call on {TIMES} copies of its
+machine, less the least of timing nothing; no digest. Each figure is the median of {TURNS} such turns, by the clock on
+the wall. A list takes some µs, so a busy machine shows: 10 to 30 ns of a figure may be noise. Compare figures of one
+run only. In the least run the processor foresees the branches: a call that comes once in a while may cost more."
     )
 }

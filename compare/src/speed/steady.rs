@@ -141,8 +141,9 @@ A tick is the least of {RUNS} runs with {} ticks less the least with {WARM_TICKS
 with {} and {WARM_LINES} lines.
 A character that joins: {TIMED_LINES} lines of {} characters less so many of {}, all turned away by 4; an over-long one:
 one line of {} less one of {WARM_CHARACTERS}. CPU time of the thread.
-The digest of all answers is included: words, pulses, number and entry of each tick; length, number and reply of
-each received byte, whose {LENT} bytes lent are cleared before.
+The digest of all answers is included: block, entry, words, pulses and number of each tick, all ticks of a call being
+lent the same {LENT} bytes; length, number and reply of each received byte, whose {LENT} bytes lent are cleared before.
+The general outputs' W line has its block before the timed ticks.
 The floor has no digest, and its lines are judged without a controller.",
         WARM_TICKS + TIMED_TICKS,
         WARM_LINES + TIMED_LINES,

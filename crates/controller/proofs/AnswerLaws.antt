@@ -47,16 +47,18 @@ pub last-held : (s : ℕ) (p : PowerOn) (l : List Answered) → Follows s p l �
 last-held s p [] f = after-power s p f
 last-held s p (byte b entry exit r ∷ l) f =
     after-byte (last p l) s (callsOf l) (last-held s p l (f .0)) b entry r (f .1 .0)
-last-held s p (tick w r ∷ l) f = after-tick (last p l) s (callsOf l) (last-held s p l (f .0)) w r (f .1 .0)
+last-held s p (tick w entry exit r ∷ l) f =
+    after-tick (last p l) s (callsOf l) (last-held s p l (f .0)) w entry r (f .1 .0)
 last-held s p (stretch bs r ∷ l) f =
     after-stretch (last p l) s (callsOf l) (last-held s p l (f .0)) bs r (f .1 .0)
 
 -- The pulses that a tick answers are those of the machine.
-pub pulse-held : (s : ℕ) (p : PowerOn) (w : ℕ) (r : TickAnswer) (l : List Answered) → Follows s p (tick w r ∷ l)
-    → (k : ℕ) → k < 5 → pulseIn r k ≡ sent (state s (callsOf l)) (calls.tick w) k
-pulse-held s p w r l f k h =
+pub pulse-held : (s : ℕ) (p : PowerOn) (w : ℕ) (entry exit : List ℕ) (r : TickAnswer) (l : List Answered)
+    → Follows s p (tick w entry exit r ∷ l) → (k : ℕ) → k < 5
+    → pulseIn r k ≡ sent (state s (callsOf l)) (calls.tick w entry) k
+pulse-held s p w entry exit r l f k h =
     ap (λ (a : TickAnswer). getD (a .pulses) k (pos 0)) (f .1 .0 s (callsOf l) (last-held s p l (f .0)))
-    ∙ each-at (tickStep (state s (callsOf l)) w .pulse) (pos 0) k h
+    ∙ each-at (tickStep (state s (callsOf l)) w entry .pulse) (pos 0) k h
 
 -- A character adds to no count and to no sum.
 counted-before : (s k b : ℕ) (h : List Call) → eqb b 13 ≡ false → counted s (calls.byte b buffer ∷ h) k ≡ counted s h k
@@ -78,9 +80,9 @@ unfolding countIn counted
 count-held s p [] f k h = refl
 count-held s p (byte b entry exit r ∷ l) f k h =
     ap (cond (begins (effect s (callsOf l) (calls.byte b entry))) 0) (count-held s p l (f .0) k h) ∙ omega arith
-count-held s p (tick w r ∷ l) f k h =
-    λ i. cond (begins (effect s (callsOf l) (calls.tick w))) 0 (count-held s p l (f .0) k h i)
-    + isPulse (pulse-held s p w r l f k h i)
+count-held s p (tick w entry exit r ∷ l) f k h =
+    λ i. cond (begins (effect s (callsOf l) (calls.tick w entry))) 0 (count-held s p l (f .0) k h i)
+    + isPulse (pulse-held s p w entry exit r l f k h i)
 count-held s p (stretch bs r ∷ l) f k h =
     count-held s p l (f .0) k h
     ∙ sym (by-characters (λ (x : List Call). counted s x k) (counted-before s k) bs (callsOf l))
@@ -92,7 +94,8 @@ sum-held s p [] f k h = refl
 sum-held s p (byte b entry exit r ∷ l) f k h =
     ap (cond (resetBy (lineOf (state s (callsOf l)) (calls.byte b entry))) (pos 0))
     (sum-held s p l (f .0) k h ∙ sym (+ℤ-idr (signed s (callsOf l) k)))
-sum-held s p (tick w r ∷ l) f k h = λ i. sum-held s p l (f .0) k h i +ℤ pulse-held s p w r l f k h i
+sum-held s p (tick w entry exit r ∷ l) f k h =
+    λ i. sum-held s p l (f .0) k h i +ℤ pulse-held s p w entry exit r l f k h i
 sum-held s p (stretch bs r ∷ l) f k h =
     sum-held s p l (f .0) k h
     ∙ sym (by-characters (λ (x : List Call). signed s x k) (signed-before s k) bs (callsOf l))
@@ -114,7 +117,7 @@ latest-held : (s : ℕ) (p : PowerOn) (l : List Answered) → Follows s p l → 
 unfolding latestIn latest
 latest-held s p [] f k h = refl
 latest-held s p (byte b entry exit r ∷ l) f k h = refl
-latest-held s p (tick w r ∷ l) f k h = pulse-held s p w r l f k h
+latest-held s p (tick w entry exit r ∷ l) f k h = pulse-held s p w entry exit r l f k h
 latest-held s p (stretch bs r ∷ l) f k h =
     ap (afterBytes (pos 0) (beforeEnd bs)) (latest-held s p l (f .0) k h) ∙ latest-after s k (beforeEnd bs) (callsOf l)
 

@@ -15,6 +15,7 @@ use Rattle.laws.proofs.Pick.{by-lt, by-eq}
 use Rattle.digits.specs.declared.Ident.{Ident}
 use Rattle.line.specs.declared.command.Command.{Command}
 use Rattle.line.specs.declared.command.Command.the-variants as C
+use Rattle.line.specs.Codes.{isW}
 use Rattle.line.specs.Ranges.{isWithin}
 use Rattle.line.specs.Fits.{CommandFits}
 use Rattle.line.proofs.Ranges.{axis, distance, by-code}
@@ -23,15 +24,15 @@ use Rattle.reply.specs.declared.readings.Travel.{Travel}
 use Rattle.reply.specs.declared.readings.Position.{Position}
 use Rattle.reply.specs.Reply.{travelDigits, twenty, bias, origin, replyOf, toldBy}
 use Rattle.reply.proofs.Replies.{reply-same}
-use Rattle.machine.specs.State.{Machine, withFlags, withMove, withWatch}
+use Rattle.machine.specs.State.{Machine, withFlags, withMove, withWatch, withSettle}
 use Rattle.machine.specs.Stops.{status, blocked, stopping, marks}
 use Rattle.machine.specs.Starts.{begun, notes, outside}
-use Rattle.machine.specs.Commands.{number, does, drops, stores, keepsStart, obeys, turned}
+use Rattle.machine.specs.Commands.{number, does, awaits, drops, stores, keepsStart, obeys, turned}
 use Rattle.machine.specs.Replies as machine
 use Rattle.machine.specs.Replies.{toldOf}
 use Rattle.machine.proofs.FitLaws.{Fits}
 use Rattle.controller.specs.declared.state.Controller.{Controller}
-use Rattle.controller.specs.Held.{held, heldHot, heldPlan, heldSettings}
+use Rattle.controller.specs.Held.{held, heldHot, heldPlan, heldSettings, isGiven, characterOf}
 use Rattle.controller.specs.Inner.Parts.{withFlag, withHot, withNext, blockedIn}
 use Rattle.controller.specs.Inner.Start.{begunOf, startNumberOf}
 use Rattle.controller.specs.Inner.Settings.{setSettingOf}
@@ -44,6 +45,7 @@ use Rattle.controller.specs.Inner.Orders.{
   obeyStopDropped,
   obeyStartStored,
 }
+use Rattle.controller.specs.Inner.Settle.{spanOf, awaitsGiven, awaitsOf}
 use Rattle.controller.specs.Inner.Numbers.{numberOf, turnedOf, turnedGiven}
 use Rattle.controller.specs.Inner.Status.{statusGiven, statusOf, readingsOf}
 use Rattle.controller.proofs.TickLaws.{each-at}
@@ -96,6 +98,16 @@ does-is m (C.Order code) h =
     (λ k p q r. rw (p, q, r)) code
 does-is m (C.Outputs v) h = refl
 does-is m (C.Read r) h = refl
+
+pub awaits-is : (m : Machine) (c : Command) (silent : Bool) (ident : Ident)
+    → awaitsOf (held m) c silent ident ≡ held (awaits m c silent ident)
+awaits-is m c silent ident = when (isW c)
+  where
+    when : (t : Bool)
+        → cond t (awaitsGiven (held m) (spanOf silent) (characterOf ident) (isGiven ident)) (held m)
+        ≡ held (withSettle m (cond t (record { left = cond silent 0 2500; ident = ident }) (m .settle)))
+    when true = refl
+    when false = refl
 
 pub turned-is : (m : Machine) (n : ℕ) → turnedOf (held m) n ≡ held (turned m n)
 turned-is m n = when (ltb n 10) refl

@@ -20,7 +20,7 @@ use Rattle.receiver.specs.declared.Taken.{Taken}
 use Rattle.receiver.specs.declared.Heard.{Heard}
 use Rattle.receiver.specs.declared.Heard.the-variants.{Character, Line}
 use Rattle.receiver.specs.Receiver.{Receipt, receive, heldTaken}
-use Rattle.machine.specs.State.{Machine}
+use Rattle.machine.specs.State.{Machine, withWatch}
 use Rattle.machine.specs.Steps.{
   Outcome,
   untaken,
@@ -33,7 +33,7 @@ use Rattle.machine.specs.Steps.{
   byteStep,
   bufferAfter,
 }
-use Rattle.machine.specs.Commands.{number}
+use Rattle.machine.specs.Commands.{number, does}
 use Rattle.machine.specs.Replies as machine
 use Rattle.machine.proofs.UnalteredLaws.{number-line}
 use Rattle.machine.proofs.Fits.{Fits, fits-same}
@@ -42,11 +42,12 @@ use Rattle.controller.specs.declared.state.ByteAnswer.{ByteAnswer}
 use Rattle.controller.specs.Held.{held, heldByte}
 use Rattle.controller.specs.Inner.Start.{StartFits}
 use Rattle.controller.specs.Inner.Orders.{zeroWatchOf}
+use Rattle.controller.specs.Inner.Settle.{awaitsOf}
 use Rattle.controller.specs.Inner.Status.{readingsOf}
 use Rattle.controller.specs.Inner.LineEnd.{refuseOf, refuseReply, obeyOf, tellReply, linedOf, linedReply}
 use Rattle.controller.specs.Inner.Power.{withLineOf}
 use Rattle.controller.proofs.StartLaws.{start-fits}
-use Rattle.controller.proofs.ByteLaws.{does-is, turned-is, number-is, reply-is}
+use Rattle.controller.proofs.ByteLaws.{does-is, awaits-is, turned-is, number-is, reply-is}
 
 -- Whatever is heard is in range.
 HeardFits : Heard → Type 0
@@ -102,7 +103,9 @@ lined-answer m b silent ident (Accepted c digits) f h =
         ≡ answered m b (cond t (accepted c digits silent ident) (refused (number m c) silent ident)) .reply)
     by true = (
       (λ i. record {
-        controller = zeroWatchOf (does-is (heardBy m b) c (h .command) i);
+        controller = (ap (λ (x : Controller). awaitsOf (zeroWatchOf x) c silent ident)
+            (does-is (heardBy m b) c (h .command))
+            ∙ awaits-is (withWatch (does (heardBy m b) c) 0) c silent ident) i;
         length = length (told silent i);
         number = 0;
       }),

@@ -15,7 +15,7 @@ use Rattle.controller.specs.Inner.Power.{isBadOf, freshOf}
 abbrev powered : ℕ → Bool → PowerOn
 powered s b = record {
   controller = held (machineOf (cond b 0 s) (powerOn s .settings) (powerOn s .next) (powerOn s .move)
-      (powerOn s .position) 0 0 0 (powerOn s .flags) (powerOn s .pause) []);
+      (powerOn s .position) 0 0 0 (powerOn s .flags) (powerOn s .pause) (powerOn s .settle) []);
   number = cond b 1 0;
 }
 

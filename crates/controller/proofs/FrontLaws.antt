@@ -1,5 +1,5 @@
--- A byte's reply has room in its lent buffer, so that the front part of the length that the byte answers is that reply.
--- Assumes nothing.
+-- A byte's reply and a tick's block have room in the lent buffer, so that the front part of the length that is answered
+-- is that reply or block. Assumes nothing.
 use Prim.Native.Nat.{ℕ, _≤_}
 use native.Mathlib.Omega.{arith}
 use mathlib.Core.Bool.{Bool}
@@ -17,12 +17,23 @@ use Rattle.line.specs.declared.Judged.the-variants.{Accepted, Refused}
 use Rattle.receiver.specs.declared.Heard.{Heard}
 use Rattle.receiver.specs.declared.Heard.the-variants.{Character, Line}
 use Rattle.receiver.specs.Receiver.{receive}
-use Rattle.reply.proofs.Replies.{reply-most, refusal-most}
+use Rattle.reply.proofs.Replies.{reply-most, refusal-most, inputs-most}
 use Rattle.machine.specs.State.{Machine}
 use Rattle.machine.specs.Commands.{number}
 use Rattle.machine.specs.Replies.{toldOf, unlessSilent}
-use Rattle.machine.specs.Steps.{Outcome, refused, decided, outcomeOf, answered, byteStep}
-use Rattle.controller.specs.Answers.{ReplyIn}
+use Rattle.machine.specs.Steps.{
+  Outcome,
+  refused,
+  decided,
+  outcomeOf,
+  answered,
+  byteStep,
+  TickAnswer,
+  isShort,
+  tooLarge,
+  tickStep,
+}
+use Rattle.controller.specs.Answers.{ReplyIn, BlockIn}
 
 silent-most : (silent : Bool) (reply : List ℕ) → length reply ≤ 120 → length (unlessSilent silent reply) ≤ 120
 silent-most silent reply h = by-bool (λ (l : List ℕ). length l ≤ 120) silent _ _ (λ e. omega arith) (λ e. h)
@@ -57,3 +68,17 @@ reply-room m b d =
 pub reply-in : (buffer : List ℕ) (n : ℕ) (part : List ℕ) → part ≡ frontOf buffer n → ReplyIn buffer n part
 reply-in buffer n part e m b entry p q =
     e ∙ ((λ i. frontOf (p i) (q i)) ∙ front-over (byteStep m b entry .reply) entry (reply-room m b entry))
+
+-- A tick that is turned away, or is not the 2,500th, has none.
+tick-room : (m : Machine) (w : ℕ) (d : List ℕ) → length (tickStep m w d .reply) ≤ length d
+tick-room m w d =
+    by-bool (λ (a : TickAnswer). length (a .reply) ≤ length d) (isShort d) _ _ (λ e. omega arith)
+    (λ e. let h = ltb-false (length d) 120 e in
+    by-bool (λ (a : TickAnswer). length (a .reply) ≤ length d) (tooLarge w) _ _ (λ q. omega arith)
+    (λ q. by-bool (λ (l : List ℕ). length l ≤ length d) (eqb (m .settle .left) 1) _ _
+    (λ p. let k = inputs-most (m .switch) w (m .settle .ident) in omega (arith, h, k))
+    (λ p. omega arith)))
+
+pub block-in : (buffer : List ℕ) (n : ℕ) (part : List ℕ) → part ≡ frontOf buffer n → BlockIn buffer n part
+block-in buffer n part e m w entry p q =
+    e ∙ ((λ i. frontOf (p i) (q i)) ∙ front-over (tickStep m w entry .reply) entry (tick-room m w entry))

@@ -56,8 +56,9 @@ unfolding ticksIn ticksSince
 ticks-held s [] = refl
 ticks-held s (byte b before exit r ∷ l) =
     ap (cond (begins (effect s (callsOf l) (calls.byte b before))) 0) (ticks-held s l) ∙ omega arith
-ticks-held s (tick w r ∷ l) =
-    λ i. cond (begins (effect s (callsOf l) (calls.tick w))) 0 (ticks-held s l i) + weight (isTaken (calls.tick w)) 1
+ticks-held s (tick w before exit r ∷ l) =
+    λ i. cond (begins (effect s (callsOf l) (calls.tick w before))) 0 (ticks-held s l i)
+    + weight (isTaken (calls.tick w before)) 1
 ticks-held s (stretch bs r ∷ l) =
     ticks-held s l ∙ sym (by-characters (λ (x : List Call). ticksSince s x) (ticks-before s) bs (callsOf l))
 
@@ -68,9 +69,9 @@ moved-held s p [] f k h = refl
 moved-held s p (byte b before exit r ∷ l) f k h =
     ap (cond (begins (effect s (callsOf l) (calls.byte b before))) (pos 0)) (moved-held s p l (f .0) k h)
     ∙ sym (+ℤ-idr (cond (begins (effect s (callsOf l) (calls.byte b before))) (pos 0) (moved s (callsOf l) k)))
-moved-held s p (tick w r ∷ l) f k h =
-    λ i. cond (begins (effect s (callsOf l) (calls.tick w))) (pos 0) (moved-held s p l (f .0) k h i)
-    +ℤ pulse-held s p w r l f k h i
+moved-held s p (tick w before exit r ∷ l) f k h =
+    λ i. cond (begins (effect s (callsOf l) (calls.tick w before))) (pos 0) (moved-held s p l (f .0) k h i)
+    +ℤ pulse-held s p w before exit r l f k h i
 moved-held s p (stretch bs r ∷ l) f k h =
     moved-held s p l (f .0) k h
     ∙ sym (by-characters (λ (x : List Call). moved s x k) (moved-before s k) bs (callsOf l))
@@ -96,8 +97,9 @@ latest-held : (s : ℕ) (p : PowerOn) (l : List Answered) → Follows s p l → 
 unfolding latestEntryIn latestEntry
 latest-held s p [] f = refl
 latest-held s p (byte b before exit r ∷ l) f = refl
-latest-held s p (tick w r ∷ l) f =
-    ap toldIn (f .1 .0 s (callsOf l) (last-held s p l (f .0))) ∙ told-back (tickStep (state s (callsOf l)) w .entry)
+latest-held s p (tick w before exit r ∷ l) f =
+    ap toldIn (f .1 .0 s (callsOf l) (last-held s p l (f .0)))
+    ∙ told-back (tickStep (state s (callsOf l)) w before .entry)
 latest-held s p (stretch bs r ∷ l) f =
     ap (afterBytes noEntry (beforeEnd bs)) (latest-held s p l (f .0)) ∙ entry-after s (beforeEnd bs) (callsOf l)
 

@@ -3,6 +3,7 @@ mod AxisLaws
 mod RampLaws
 mod StepLaws
 mod LineEndLaws
+mod SettleLaws
 pub mod TickLaws
 pub mod StartLaws
 pub mod PulseLaws
@@ -18,4 +19,5 @@ pub mod ReachLaws
 pub mod GatherLaws
 pub mod AnswerLaws
 pub mod JournalAnswerLaws
+pub mod SettleAnswerLaws
 pub mod FrontLaws

@@ -2,9 +2,12 @@
 -- what its code needs there, and the answer. Assumes nothing.
 use Prim.Native.Nat.{ℕ, _+_}
 use mathlib.Core.Bool.{not, _&&_}
+use mathlib.Core.List.{List}
 use mathlib.Core.Path.{_≡_, refl, sym, ap, subst, _∙_}
 use lib.Dec.{ltb, leb, eqb}
+use lib.ListN.{length}
 use Rattle.laws.proofs.Pick.{by-bool}
+use Rattle.receiver.specs.Receiver.{holding}
 use Rattle.machine.specs.State.{Machine}
 use Rattle.machine.specs.Shares.{whole, gone}
 use Rattle.machine.specs.Ramp as ramp
@@ -15,7 +18,7 @@ use Rattle.machine.proofs.FitLaws.{Fits, fits-takes, fits-looks, fits-stops}
 use Rattle.controller.specs.declared.state.Cold.{Cold}
 use Rattle.controller.specs.declared.state.TickAnswer.{TickAnswer}
 use Rattle.controller.specs.declared.state.Settings.{Settings}
-use Rattle.controller.specs.Held.{heldSettings, heldPlan, heldHot, heldCold, heldTick}
+use Rattle.controller.specs.Held.{heldSettings, heldPlan, heldHot, heldCold, heldTick, isGiven, characterOf}
 use Rattle.controller.specs.Inner.Motion.{runsOf, heldRan, RunFits}
 use Rattle.controller.specs.Inner.Words.{restOf}
 use Rattle.controller.specs.Inner.Watch.{stopsOf}
@@ -36,15 +39,40 @@ cold-waits m (began k) = refl
 cold-stops : (m : Machine) → heldCold (stops m) ≡ heldCold m
 cold-stops m = by-bool (λ (a : Machine). heldCold a ≡ heldCold m) (cause m) _ _ (λ e. refl) (λ e. refl)
 
+-- What of a machine is held there.
+record Cool (m a : Machine) : Type 0 where
+  settings : a .settings ≡ m .settings
+  next : a .next ≡ m .next
+  line : a .line ≡ m .line
+  switch : a .switch ≡ m .switch
+  settle : a .settle ≡ m .settle
+
+runs-cool : (m : Machine) → Cool m (runs m .machine)
+runs-cool m =
+    by-bool P (not (m .move .moving)) _ _
+    (λ e. record { settings = refl; next = refl; line = refl; switch = refl; settle = refl })
+    (λ e. by-bool P (m .move .stopping && leb (m .move .speed) (m .settings .slope)) _ _
+    (λ q. record { settings = refl; next = refl; line = refl; switch = refl; settle = refl })
+    (λ q. by-bool P (ltb (m .move .phase + ramped (m .settings) (m .move)) full) _ _
+    (λ l. record { settings = refl; next = refl; line = refl; switch = refl; settle = refl })
+    (λ l. by-bool (Cool m) (eqb (gone (m .move) + 1) (whole (m .move))) _ _
+    (λ n. record { settings = refl; next = refl; line = refl; switch = refl; settle = refl })
+    (λ n. record { settings = refl; next = refl; line = refl; switch = refl; settle = refl }))))
+  where
+    P : ramp.Ran → Type 0
+    P r = Cool m (r .machine)
+
 cold-runs : (m : Machine) → heldCold (runs m .machine) ≡ heldCold m
 cold-runs m =
-    by-bool (λ (r : ramp.Ran). heldCold (r .machine) ≡ heldCold m) (not (m .move .moving)) _ _ (λ e. refl)
-    (λ e. by-bool (λ (r : ramp.Ran). heldCold (r .machine) ≡ heldCold m)
-    (m .move .stopping && leb (m .move .speed) (m .settings .slope)) _ _ (λ q. refl)
-    (λ q. by-bool (λ (r : ramp.Ran). heldCold (r .machine) ≡ heldCold m)
-    (ltb (m .move .phase + ramped (m .settings) (m .move)) full) _ _ (λ l. refl)
-    (λ l. by-bool (λ (a : Machine). heldCold a ≡ heldCold m) (eqb (gone (m .move) + 1) (whole (m .move))) _ _
-    (λ n. refl) (λ n. refl))))
+    let k = runs-cool m in
+    λ i. record {
+      settings = heldSettings (k .settings i);
+      next = heldPlan (k .next i);
+      line = holding (k .line i);
+      switch = k .switch i;
+      ident = characterOf (k .settle i .ident);
+      named = isGiven (k .settle i .ident);
+    }
 
 -- ---- The stages
 
@@ -84,7 +112,7 @@ module _ (m : Machine) (w : ℕ) (f : Fits m) where
       (run-fits (stops (looks m w)) (fits-stops (looks m w) (fits-looks m w f)))
 
   -- The answer of a tick whose word is not too large, from what its stages leave.
-  pub ticked-is :
+  pub ticked-is : (block : List ℕ) →
       _≡_ {A = TickAnswer} (record {
         controller = record { hot = heldRan (runs (stops (looks m w))) .hot; cold = heldCold m };
         pulses = heldRan (runs (stops (looks m w))) .pulses;
@@ -92,15 +120,17 @@ module _ (m : Machine) (w : ℕ) (f : Fits m) where
         second = restOf (heldRan (runs (stops (looks m w))) .hot .wires);
         number = failure (tries (takes m w));
         ended = heldRan (runs (stops (looks m w))) .ends;
+        length = length block;
         entry = toldHeld (runs (stops (looks m w)));
       })
-      (heldTick (ticked (runs (stops (looks m w))) (failure (tries (takes m w)))))
-  ticked-is = λ i. record {
+      (heldTick (ticked (runs (stops (looks m w))) (failure (tries (takes m w))) block))
+  ticked-is block = λ i. record {
     controller = record { hot = heldHot (runs (stops (looks m w)) .machine); cold = sym cold-is i };
     pulses = heldRan (runs (stops (looks m w))) .pulses;
     first = heldRan (runs (stops (looks m w))) .first;
     second = rest-is (runs (stops (looks m w)) .machine) (runs (stops (looks m w)) .pulse) i;
     number = failure (tries (takes m w));
     ended = heldRan (runs (stops (looks m w))) .ends;
+    length = length block;
     entry = told-is (stops (looks m w)) i;
   }

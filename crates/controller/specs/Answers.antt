@@ -14,7 +14,7 @@ use Rattle.reply.specs.declared.readings.Position.{Position}
 use Rattle.reply.specs.Reply.{positionOf}
 use Rattle.receiver.specs.Receiver.{beforeEnd}
 use Rattle.machine.specs.State.{Machine}
-use Rattle.machine.specs.Steps.{byteStep, tickStep, bufferAfter}
+use Rattle.machine.specs.Steps.{byteStep, tickStep, bufferAfter, bufferAfterTick}
 use Rattle.machine.specs.Calls as calls
 use Rattle.machine.specs.Calls.{Call, state, buffer, bytes}
 use Rattle.machine.specs.Roles.{begins, lineOf, resetBy}
@@ -36,6 +36,12 @@ ReplyIn buffer n part =
     (m : Machine) (b : ℕ) (entry : List ℕ) → buffer ≡ bufferAfter (byteStep m b entry) entry
     → n ≡ length (byteStep m b entry .reply) → part ≡ byteStep m b entry .reply
 
+-- The part is the block of any tick that left the buffer so and answered the length n.
+abbrev pub BlockIn : List ℕ → ℕ → List ℕ → Type 0
+BlockIn buffer n part =
+    (m : Machine) (w : ℕ) (entry : List ℕ) → buffer ≡ bufferAfterTick (tickStep m w entry) entry
+    → n ≡ length (tickStep m w entry .reply) → part ≡ tickStep m w entry .reply
+
 -- Bytes that come one after another, each with a buffer of 120 bytes, have neither a reply nor a number.
 abbrev pub Quiet : Machine → List ℕ → Type 0
 Quiet m [] = Unit {0}
@@ -44,17 +50,17 @@ Quiet m (b ∷ bs) =
 
 -- ---- Calls with their answers
 
--- A received byte, the lent buffer before and after the call, and the answer; a tick's input word and its answer; or a
--- stretch of bytes, of which those before the first 0D are taken, and its answer.
+-- A received byte, the lent buffer before and after the call, and the answer; a tick's input word, the same of its lent
+-- buffer, and its answer; or a stretch of bytes, of which those before the first 0D are taken, and its answer.
 pub data Answered : Type 0 where
   byte : ℕ → List ℕ → List ℕ → ByteAnswer → Answered
-  tick : ℕ → TickAnswer → Answered
+  tick : ℕ → List ℕ → List ℕ → TickAnswer → Answered
   stretch : List ℕ → Gathered → Answered
 
 -- The controller that a call left.
 abbrev pub leftBy : Answered → Controller
 leftBy (byte b entry exit r) = r .controller
-leftBy (tick w r) = r .controller
+leftBy (tick w entry exit r) = r .controller
 leftBy (stretch bs r) = r .controller
 
 -- The controller after a list of calls: the first call gets what power-on gave.
@@ -67,7 +73,9 @@ abbrev pub Promised : Controller → Answered → Type 0
 Promised c (byte b entry exit r) =
     Made c (λ m. r ≡ heldByte (byteStep m b entry))
     × (Made c (λ m. exit ≡ bufferAfter (byteStep m b entry) entry) × Reachable (r .controller))
-Promised c (tick w r) = Made c (λ m. r ≡ heldTick (tickStep m w)) × Reachable (r .controller)
+Promised c (tick w entry exit r) =
+    Made c (λ m. r ≡ heldTick (tickStep m w entry))
+    × (Made c (λ m. exit ≡ bufferAfterTick (tickStep m w entry) entry) × Reachable (r .controller))
 Promised c (stretch bs r) =
     Made c (λ m. r ≡ heldGathered m bs) × (Made c (λ m. Quiet m (beforeEnd bs)) × Reachable (r .controller))
 
@@ -82,7 +90,7 @@ Follows s p (x ∷ l) = Follows s p l × Promised (last p l) x
 -- first 0D.
 abbrev pub callsIn : Answered → List Call → List Call
 callsIn (byte b entry exit r) h = calls.byte b entry ∷ h
-callsIn (tick w r) h = calls.tick w ∷ h
+callsIn (tick w entry exit r) h = calls.tick w entry ∷ h
 callsIn (stretch bs r) h = bytes (beforeEnd bs) h
 
 abbrev pub callsOf : List Answered → List Call
@@ -102,7 +110,7 @@ afterBytes none (b ∷ bs) before = none
 unfoldable pub latestIn : List Answered → ℕ → ℤ
 latestIn [] k = pos 0
 latestIn (byte b entry exit r ∷ l) k = pos 0
-latestIn (tick w r ∷ l) k = pulseIn r k
+latestIn (tick w entry exit r ∷ l) k = pulseIn r k
 latestIn (stretch bs r ∷ l) k = afterBytes (pos 0) (beforeEnd bs) (latestIn l k)
 
 -- The answered pulses of all ticks since the latest move's start took effect, for a stored start that very tick
@@ -111,8 +119,8 @@ unfoldable pub countIn : ℕ → List Answered → ℕ → ℕ
 countIn s [] k = 0
 countIn s (byte b entry exit r ∷ l) k =
     cond (begins (effect s (callsOf l) (calls.byte b entry))) 0 (countIn s l k)
-countIn s (tick w r ∷ l) k =
-    cond (begins (effect s (callsOf l) (calls.tick w))) 0 (countIn s l k) + isPulse (pulseIn r k)
+countIn s (tick w entry exit r ∷ l) k =
+    cond (begins (effect s (callsOf l) (calls.tick w entry))) 0 (countIn s l k) + isPulse (pulseIn r k)
 countIn s (stretch bs r ∷ l) k = countIn s l k
 
 -- The sum of the answered pulses since power-on or the last accepted position reset.
@@ -120,7 +128,7 @@ unfoldable pub sumIn : ℕ → List Answered → ℕ → ℤ
 sumIn s [] k = pos 0
 sumIn s (byte b entry exit r ∷ l) k =
     cond (resetBy (lineOf (state s (callsOf l)) (calls.byte b entry))) (pos 0) (sumIn s l k)
-sumIn s (tick w r ∷ l) k = sumIn s l k +ℤ pulseIn r k
+sumIn s (tick w entry exit r ∷ l) k = sumIn s l k +ℤ pulseIn r k
 sumIn s (stretch bs r ∷ l) k = sumIn s l k
 
 -- ---- The claim

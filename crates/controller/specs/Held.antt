@@ -7,6 +7,8 @@ use mathlib.Core.List.{List, []}
 use lib.IntN.{ℤ}
 use lib.ListN.{length}
 use Rattle.laws.specs.Axes.{each}
+use Rattle.digits.specs.declared.Ident.{Ident}
+use Rattle.digits.specs.declared.Ident.the-variants.{Absent, Given}
 use Rattle.outputs.specs.Outputs.{generalOf, restOf, fireOf, stillOf}
 use Rattle.receiver.specs.Receiver.{holding, beforeEnd}
 use Rattle.reply.specs.declared.readings.Travel.{Travel}
@@ -89,8 +91,9 @@ abbrev pub heldWaiting : M.Waiting → ℕ
 heldWaiting none = 0
 heldWaiting (start k) = k + 1
 
-abbrev pub heldPause : M.Pause → Pause
-heldPause p = record { left = p .left; waiting = heldWaiting (p .waiting) }
+-- Beside the dwell stand the ticks until the block of a W line.
+abbrev pub heldPause : M.Pause → M.Settle → Pause
+heldPause p x = record { left = p .left; waiting = heldWaiting (p .waiting); block = x .left }
 
 abbrev pub heldFlags : M.Flags → Flags
 heldFlags f = record { wrong = f .wrongMaster; stopped = f .stopped; emergency = f .emergency; sensed = f .sensed }
@@ -113,11 +116,20 @@ heldHot m = record {
   counters = heldCounters (m .move) (m .position);
   run = heldRun (m .move);
   wires = heldWires (m .switch) (m .settings .polarity) (m .outputs) (m .move .plan);
-  pause = heldPause (m .pause);
+  pause = heldPause (m .pause) (m .settle);
   inputs = m .inputs;
   watch = m .watch;
   flags = heldFlags (m .flags);
 }
+
+-- Whether there is an identification, and its character, 0 without one.
+abbrev pub isGiven : Ident → Bool
+isGiven Absent = false
+isGiven (Given c) = true
+
+abbrev pub characterOf : Ident → ℕ
+characterOf Absent = 0
+characterOf (Given c) = c
 
 -- What only bytes alter. A half-received line is held as the receiver holds it.
 abbrev pub heldCold : Machine → Cold
@@ -126,6 +138,8 @@ heldCold m = record {
   next = heldPlan (m .next);
   line = holding (m .line);
   switch = m .switch;
+  ident = characterOf (m .settle .ident);
+  named = isGiven (m .settle .ident);
 }
 
 -- The controller that holds a machine.
@@ -163,7 +177,7 @@ abbrev pub heldEntry : EntryAnswer → Entry
 heldEntry noEntry = zeroEntry
 heldEntry (entry e) = e
 
--- A tick: the next controller, the pulses as a list, the two words, the number, the entry.
+-- A tick: the next controller, the pulses as a list, the two words, the number, the entry, the length of the block.
 abbrev pub heldTick : steps.TickAnswer → TickAnswer
 heldTick a = record {
   controller = held (a .machine);
@@ -172,5 +186,6 @@ heldTick a = record {
   second = a .second;
   number = a .number;
   ended = isEnd (a .entry);
+  length = length (a .reply);
   entry = heldEntry (a .entry);
 }

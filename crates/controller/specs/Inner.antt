@@ -12,6 +12,8 @@ pub mod Entry
 pub mod Settings
 pub mod Numbers
 pub mod Orders
+pub mod Settle
 pub mod Status
 pub mod LineEnd
 pub mod Power
+pub mod Turned

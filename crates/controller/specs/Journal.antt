@@ -38,7 +38,7 @@ toldIn r = cond (r .ended) (entry (r .entry)) noEntry
 unfoldable pub latestEntryIn : List Answered → EntryAnswer
 latestEntryIn [] = noEntry
 latestEntryIn (byte b before exit r ∷ l) = noEntry
-latestEntryIn (tick w r ∷ l) = toldIn r
+latestEntryIn (tick w before exit r ∷ l) = toldIn r
 latestEntryIn (stretch bs r ∷ l) = afterBytes noEntry (beforeEnd bs) (latestEntryIn l)
 
 -- The ticks that were not turned away since the latest move's start took effect, for a stored start that very tick
@@ -46,8 +46,9 @@ latestEntryIn (stretch bs r ∷ l) = afterBytes noEntry (beforeEnd bs) (latestEn
 unfoldable pub ticksIn : ℕ → List Answered → ℕ
 ticksIn s [] = 0
 ticksIn s (byte b before exit r ∷ l) = cond (begins (effect s (callsOf l) (calls.byte b before))) 0 (ticksIn s l)
-ticksIn s (tick w r ∷ l) =
-    cond (begins (effect s (callsOf l) (calls.tick w))) 0 (ticksIn s l) + weight (isTaken (calls.tick w)) 1
+ticksIn s (tick w before exit r ∷ l) =
+    cond (begins (effect s (callsOf l) (calls.tick w before))) 0 (ticksIn s l)
+    + weight (isTaken (calls.tick w before)) 1
 ticksIn s (stretch bs r ∷ l) = ticksIn s l
 
 -- The sum of the pulses that those ticks answered for axis k.
@@ -55,8 +56,8 @@ unfoldable pub movedIn : ℕ → List Answered → ℕ → ℤ
 movedIn s [] k = pos 0
 movedIn s (byte b before exit r ∷ l) k =
     cond (begins (effect s (callsOf l) (calls.byte b before))) (pos 0) (movedIn s l k)
-movedIn s (tick w r ∷ l) k =
-    cond (begins (effect s (callsOf l) (calls.tick w))) (pos 0) (movedIn s l k) +ℤ pulseIn r k
+movedIn s (tick w before exit r ∷ l) k =
+    cond (begins (effect s (callsOf l) (calls.tick w before))) (pos 0) (movedIn s l k) +ℤ pulseIn r k
 movedIn s (stretch bs r ∷ l) k = movedIn s l k
 
 -- The latest move's entry. m is the number of pulses that the master was answered.

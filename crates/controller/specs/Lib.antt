@@ -2,4 +2,5 @@ pub mod Held
 pub mod Reach
 pub mod Answers
 pub mod Journal
+pub mod Settle
 pub mod Inner

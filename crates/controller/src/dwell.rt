@@ -55,7 +55,7 @@ fn lessened(left: u32) -> u32
     left - 1
 }
 
-fn is_due(left: u32, waiting: u32) -> bool
+fn is_due(left: u32, waiting: u16) -> bool
     ensures { λ r. ⌜ r ≡ isDueOf left waiting ⌝ }
 {
     if left == 1 {

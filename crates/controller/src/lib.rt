@@ -1,27 +1,30 @@
 // The blending controller (paper 01): power-on, a received byte with its lent reply buffer, the bytes before a 0D at
-// once, a tick with its input word, readings. Only power-on and calls can make one. Each entry's answer is that of the
-// crate `machine`, held as specs/Held.antt says; the only premise is that the controller is reachable. Assumes nothing.
+// once, a tick with its input word and its lent reply buffer, readings. Only power-on and calls can make one. Each
+// entry's answer is that of the crate `machine`, held as specs/Held.antt says; the only premise is that the controller
+// is reachable. Assumes nothing.
 ghost use mathlib.Core.Path.{_≡_};
 ghost use Rattle.block.specs.Block.{frontOf};
 ghost use Rattle.machine.specs.Demand.{Demand3};
 ghost use Rattle.machine.specs.Journal.{Journal};
 ghost use Rattle.machine.specs.Marked.{Marked};
+ghost use Rattle.machine.specs.Settle.{Settles};
 ghost use Rattle.machine.specs.Watch.{Watch};
+ghost use Rattle.witness.specs.Blocks.{BlockWitness};
 ghost use Rattle.witness.specs.Entries.{EntryWitness};
 ghost use Rattle.witness.specs.Witness.{Witness};
 ghost use Rattle.controller.specs.Held.{heldPower};
 ghost use Rattle.controller.specs.Reach.{Reachable};
 ghost use Rattle.controller.specs.Answers as answered;
-ghost use Rattle.controller.specs.Answers.{ReplyIn, Promised, Demand3Answers};
+ghost use Rattle.controller.specs.Answers.{ReplyIn, BlockIn, Promised, Demand3Answers};
 ghost use Rattle.controller.specs.Journal.{JournalAnswers};
-ghost use Rattle.controller.specs.Inner.Power.{withLineOf, refusedOf};
+ghost use Rattle.controller.specs.Settle.{SettlesAnswers};
+ghost use Rattle.controller.specs.Inner.Power.{withLineOf};
 pub use crate::state::ByteAnswer;
 pub use crate::state::Controller;
 pub use crate::state::Gathered;
 pub use crate::state::PowerOn;
 pub use crate::state::TickAnswer;
 use block::REPLY_ROOM;
-use journal::NO_ENTRY;
 use receiver::Heard;
 use receiver::Receiver;
 
@@ -35,20 +38,20 @@ mod power;
 mod ramp;
 mod readings;
 mod settings;
+mod settle;
 mod start;
 pub mod state;
 mod status;
+mod turned;
 mod watch;
 mod words;
-
-// The greatest input word: 24 bits.
-const LAST_WORD: u32 = 16777215;
 
 // Power-on. The theorem about every list of calls, the marked table and computed lists stand here as promises, so that
 // the gate keeps them: they speak of the machine whose held values every entry answers. The same theorem over the
 // answers of these entries themselves stands beside it (`Demand3Answers`). So do the two about the journal's entries
-// (`Journal`, `JournalAnswers`), with computed ones (`EntryWitness`), and the one about the watch that is on from here
-// (`Watch`).
+// (`Journal`, `JournalAnswers`), with computed ones (`EntryWitness`), the one about the watch that is on from here
+// (`Watch`), and the two about the blocks of W lines (`Settles`, `SettlesAnswers`), with computed ones
+// (`BlockWitness`).
 pub fn power_on(switch: u8) -> PowerOn
     ensures { λ r. ⌜ r ≡ heldPower switch ⌝ }
     ensures { λ _. ⌜ Demand3 ⌝ }
@@ -59,6 +62,9 @@ pub fn power_on(switch: u8) -> PowerOn
     ensures { λ _. ⌜ JournalAnswers ⌝ }
     ensures { λ _. ⌜ EntryWitness ⌝ }
     ensures { λ _. ⌜ Watch ⌝ }
+    ensures { λ _. ⌜ Settles ⌝ }
+    ensures { λ _. ⌜ SettlesAnswers ⌝ }
+    ensures { λ _. ⌜ BlockWitness ⌝ }
     ensures { λ r. ⌜ Reachable (r .controller) ⌝ }
 {
     if power::is_bad(switch) {
@@ -75,11 +81,12 @@ pub fn power_on(switch: u8) -> PowerOn
     }
 }
 
-// The reply that a received byte left in its lent buffer, by the length that it answered: the front part, empty for a
-// length past the end.
+// The reply that a received byte or a tick left in its lent buffer, by the length that it answered: the front part,
+// empty for a length past the end.
 pub fn front(buf: &[u8], n: usize) -> &[u8]
     ensures { λ r. ⌜ now r ≡ frontOf (now (buf .entry)) n ⌝ }
     ensures { λ r. ⌜ ReplyIn (now (buf .entry)) n (now r) ⌝ }
+    ensures { λ r. ⌜ BlockIn (now (buf .entry)) n (now r) ⌝ }
 {
     block::front(buf, n)
 }
@@ -92,21 +99,6 @@ fn with_line(c: Controller, line: Receiver) -> Controller
     let mut cold = c.cold;
     cold.line = line;
     Controller { hot, cold }
-}
-
-// A tick that is turned away: nothing altered.
-fn refused(c: Controller) -> TickAnswer
-    ensures { λ r. ⌜ r ≡ refusedOf c ⌝ }
-{
-    TickAnswer {
-        controller: c,
-        first: 0,
-        second: 0,
-        pulses: [0; 5],
-        number: 3,
-        ended: false,
-        entry: NO_ENTRY,
-    }
 }
 
 impl Controller {
@@ -158,13 +150,14 @@ impl Controller {
         }
     }
 
-    // A tick, with its input word: the answer is the machine's.
-    pub fn tick(self, word: u32) -> TickAnswer
+    // A tick, with its input word and the buffer lent for a block: the answer and the whole buffer are the machine's.
+    pub fn tick(self, buf: &mut [u8], word: u32) -> TickAnswer
         requires { ⌜ Reachable self ⌝ }
-        ensures { λ r. ⌜ Promised self (answered.tick word r) ⌝ }
+        ensures { λ r. ⌜ Promised self (answered.tick word (now (buf .entry)) (now (buf .exit)) r) ⌝ }
     {
-        if LAST_WORD < word {
-            return refused(self);
+        let number = turned::tick_number(buf.len(), word);
+        if number != 0 {
+            return turned::refused(self, number);
         }
         let cold = self.cold;
         let settings = cold.settings;
@@ -183,6 +176,8 @@ impl Controller {
         let counters = hot.counters;
         let run = hot.run;
         let entry = entry::told(ran.ends, plan, counters, run);
+        let block = was.pause.block;
+        let length = settle::tell(buf, block, cold.switch, word, cold.named, cold.ident);
         let controller = Controller { hot, cold };
         TickAnswer {
             controller,
@@ -191,6 +186,7 @@ impl Controller {
             pulses,
             number: waited.number,
             ended: ran.ends,
+            length,
             entry,
         }
     }

@@ -15,6 +15,7 @@ ghost use Rattle.controller.specs.Inner.LineEnd.{
 };
 use crate::numbers;
 use crate::orders;
+use crate::settle;
 use crate::state::ByteAnswer;
 use crate::state::Controller;
 use crate::status;
@@ -75,7 +76,8 @@ fn obey(
 {
     let length = tell(c, buf, silent, ident, command, digits);
     let done = orders::does(c, command);
-    let controller = orders::zero_watch(done);
+    let zeroed = orders::zero_watch(done);
+    let controller = settle::awaits(zeroed, command, silent, ident);
     ByteAnswer {
         controller,
         length,

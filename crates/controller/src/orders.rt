@@ -25,7 +25,7 @@ fn obey_start(c: Controller, master: u8, waits: bool) -> Controller
 {
     let mut next = c;
     if numbers::stores(c, waits) {
-        let waiting = master as u32 + 1;
+        let waiting = master as u16 + 1;
         next.hot.pause.waiting = waiting;
         return next;
     }

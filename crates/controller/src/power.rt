@@ -74,6 +74,7 @@ fn fresh_hot(switch: u8, plan: Plan) -> Hot
     let pause = Pause {
         left: 0,
         waiting: 0,
+        block: 0,
     };
     let flags = Flags {
         wrong: false,
@@ -110,6 +111,8 @@ pub(crate) fn fresh(switch: u8) -> Controller
         next: plan,
         line,
         switch,
+        ident: 0,
+        named: false,
     };
     Controller { hot, cold }
 }

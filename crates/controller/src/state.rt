@@ -51,11 +51,13 @@ pub struct Counters {
     pub positions: [Position; 5],
 }
 
-// The ticks of the dwell that are left, and the waiting start: 0, or its master and 1.
+// The ticks of the dwell that are left, and the waiting start: 0, or its master and 1; and the ticks until the block of
+// a W line, 0 where none is to come.
 #[repr(C)]
 pub struct Pause {
     pub left: u32,
-    pub waiting: u32,
+    pub waiting: u16,
+    pub block: u16,
 }
 
 // Status bits 2, 3, 5 and 6.
@@ -86,12 +88,14 @@ pub struct Hot {
     pub flags: Flags,
 }
 
-// What only bytes alter.
+// What only bytes alter. The identification is the latest W line's, if that has one: no enum crosses to firmware.
 #[repr(C)]
 pub struct Cold {
     pub settings: Settings,
     pub next: Plan,
     pub line: Receiver,
+    pub named: bool,
+    pub ident: u8,
     pub switch: u8,
 }
 
@@ -125,8 +129,8 @@ pub struct Gathered {
 }
 
 // What a tick answers: the next controller, the five pulses (-1, 0, 1), the output words of its two halves, the number
-// of a waiting start that failed, or 3, or 0, and whether it ends a move, with the entry of that move for the journal;
-// an entry without an end is all zeros.
+// of a waiting start that failed, or 2, 3, or 0, whether it ends a move, with the entry of that move for the journal
+// (an entry without an end is all zeros), and the length of a W line's block in the lent buffer, 0 without one.
 #[repr(C)]
 pub struct TickAnswer {
     pub controller: Controller,
@@ -135,6 +139,7 @@ pub struct TickAnswer {
     pub pulses: [i8; 5],
     pub number: u8,
     pub ended: bool,
+    pub length: u8,
     pub entry: Entry,
 }
 

@@ -11,6 +11,7 @@ ghost use Rattle.controller.specs.Inner.Watch.{
   causesOf,
   stopsOf,
 };
+use crate::settle;
 use crate::state;
 use crate::state::Hot;
 use crate::state::Plan;
@@ -38,15 +39,18 @@ fn is_full(watch: u32, setting: u32) -> bool
     setting % 2 == 1
 }
 
-// Take inputs, raise the watch count, hold an active emergency, clear the general outputs at a full count.
+// Take inputs, with one tick less until a W line's block, raise the watch count, hold an active emergency, clear the
+// general outputs at a full count.
 pub(crate) fn takes(settings: Settings, was: Hot, word: u32) -> Hot
     ensures { λ r. ⌜ r ≡ takesOf settings was word ⌝ }
 {
     let active = inputs::emergency(settings.low, settings.high, word);
     let emergency = state::either(was.flags.emergency, active);
     let watch = raised(was.watch);
+    let block = settle::fewer(was.pause.block);
     let mut next = was;
     next.inputs = word;
+    next.pause.block = block;
     next.watch = watch;
     next.flags.emergency = emergency;
     if is_full(watch, settings.watch / 2) {

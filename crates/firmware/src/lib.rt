@@ -15,6 +15,7 @@ ghost use Rattle.controller.specs.Reach.{Reachable, Made};
 ghost use Rattle.controller.specs.Answers as answered;
 ghost use Rattle.controller.specs.Answers.{Promised, TravelsOf, PositionsOf, Demand3Answers};
 ghost use Rattle.controller.specs.Journal.{JournalAnswers};
+ghost use Rattle.controller.specs.Settle.{SettlesAnswers};
 use controller::ByteAnswer;
 use controller::Controller;
 use controller::PowerOn;
@@ -42,6 +43,7 @@ pub extern "C" fn temixohuel_power_on(switch: u8) -> PowerOn
     ensures { λ r. ⌜ r ≡ heldPower switch ⌝ }
     ensures { λ _. ⌜ Demand3Answers ⌝ }
     ensures { λ _. ⌜ JournalAnswers ⌝ }
+    ensures { λ _. ⌜ SettlesAnswers ⌝ }
     ensures { λ r. ⌜ Reachable (r .controller) ⌝ }
 {
     controller::power_on(switch)
@@ -56,13 +58,14 @@ pub extern "C" fn temixohuel_byte(c: Controller, buf: &mut [u8], b: u8) -> ByteA
     c.byte(buf, b)
 }
 
-// A tick, with its input word; the one that ends a move answers its entry.
+// A tick, with its input word and the buffer lent for the block of a W line; the one that ends a move answers its
+// entry.
 #[no_mangle]
-pub extern "C" fn temixohuel_tick(c: Controller, word: u32) -> TickAnswer
+pub extern "C" fn temixohuel_tick(c: Controller, buf: &mut [u8], word: u32) -> TickAnswer
     requires { ⌜ Reachable c ⌝ }
-    ensures { λ r. ⌜ Promised c (answered.tick word r) ⌝ }
+    ensures { λ r. ⌜ Promised c (answered.tick word (now (buf .entry)) (now (buf .exit)) r) ⌝ }
 {
-    c.tick(word)
+    c.tick(buf, word)
 }
 
 // The pulses that each axis has sent in the latest move.

@@ -13,7 +13,7 @@ use Rattle.receiver.specs.declared.Heard.{Heard}
 use Rattle.receiver.specs.declared.Heard.the-variants.{Character}
 use Rattle.receiver.specs.Receiver.{Receipt, receive, heardLine}
 use Rattle.machine.specs.State.{Machine, withLine, withWatch}
-use Rattle.machine.specs.Commands.{number, does, turned}
+use Rattle.machine.specs.Commands.{number, does, awaits, turned}
 use Rattle.machine.specs.Replies.{replyTo, refusal, unlessSilent}
 use Rattle.machine.specs.Steps.{Outcome, untaken, refused, accepted, outcomeOf, ByteAnswer, answered, byteStep}
 use Rattle.machine.specs.Calls.{Call, byte, after, run, state, from}
@@ -103,14 +103,14 @@ module _ (m : Machine) (r : Request) where
 
     end-obeyed : number m (r .command) ≡ 0
         → answerTo m r ≡ record {
-          machine = withWatch (does m (r .command)) 0;
+          machine = awaits (withWatch (does m (r .command)) 0) (r .command) (r .silent) (r .ident);
           reply = unlessSilent (r .silent) (replyTo m (r .command) (digitsOf (r .command)) (r .ident));
           number = 0;
         }
     end-obeyed e =
         rw (eq-eqb (number m (r .command)) 0 e)
         (λ i. record {
-          machine = withWatch (does (same i) (r .command)) 0;
+          machine = awaits (withWatch (does (same i) (r .command)) 0) (r .command) (r .silent) (r .ident);
           reply = unlessSilent (r .silent) (replyTo m (r .command) (digitsOf (r .command)) (r .ident));
           number = 0;
         })

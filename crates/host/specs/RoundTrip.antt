@@ -15,7 +15,7 @@ use Rattle.receiver.specs.declared.Heard.{Heard}
 use Rattle.receiver.specs.declared.Heard.the-variants.{Character, Line}
 use Rattle.receiver.specs.Receiver.{receive, heardLine}
 use Rattle.machine.specs.State.{Machine, withLine, withWatch}
-use Rattle.machine.specs.Commands.{number, does, turned}
+use Rattle.machine.specs.Commands.{number, does, awaits, turned}
 use Rattle.machine.specs.Replies.{replyTo, refusal, unlessSilent}
 use Rattle.machine.specs.Steps.{ByteAnswer, decided, answered, byteStep}
 use Rattle.machine.specs.Calls.{Call, byte, from}
@@ -76,10 +76,10 @@ pub record Obeys (m : Machine) (r : Request) (lent : ℕ → List ℕ) : Type 0 
   pub left : from m (callsOf lent (lineOf r) []) ≡ answerTo m r .machine
   -- no half-received line is left
   pub clear : answerTo m r .machine .line ≡ []
-  -- accepted: what the command does, its reply, and number 0
+  -- accepted: what the command does, the block that a W line waits for, its reply, and number 0
   pub obeyed : number m (r .command) ≡ 0
       → answerTo m r ≡ record {
-        machine = withWatch (does m (r .command)) 0;
+        machine = awaits (withWatch (does m (r .command)) 0) (r .command) (r .silent) (r .ident);
         reply = unlessSilent (r .silent) (replyTo m (r .command) (digitsOf (r .command)) (r .ident));
         number = 0;
       }

@@ -4,7 +4,7 @@ ghost use Prim.Native.Nat.{_+_, _<_};
 ghost use mathlib.Core.Path.{_≡_};
 ghost use Rattle.laws.specs.Bits.{weight};
 ghost use Rattle.digits.specs.Digits.{fiveDigits, topBit};
-ghost use Rattle.line.specs.Codes.{isInputs, isQuery};
+ghost use Rattle.line.specs.Codes.{isQuery};
 ghost use Rattle.line.specs.Fits.{CommandFits};
 ghost use Rattle.line.specs.declared.command.Command.the-variants as C;
 ghost use Rattle.reply.specs.Reply.{coded};
@@ -12,6 +12,7 @@ ghost use Rattle.host.specs.Writer.{content, contentOf};
 use digits::FIVE_DIGITS;
 use digits::FOUR_DIGITS;
 use digits::TOP_BIT;
+use line::command;
 use line::command::Command;
 use line::command::Reading;
 
@@ -120,19 +121,6 @@ pub(crate) fn content_of(command: Command) -> Content
     }
 }
 
-// Whether a reading is of the inputs.
-fn is_inputs(reading: Reading) -> bool
-    ensures { λ r. ⌜ r ≡ isInputs reading ⌝ }
-{
-    match reading {
-        Reading::Travel(_) => false,
-        Reading::Position(_) => false,
-        Reading::Status => false,
-        Reading::Everything => false,
-        Reading::Inputs => true,
-    }
-}
-
 // Whether a command is W's query, which has no digits.
 pub(crate) fn is_query(command: Command) -> bool
     ensures { λ r. ⌜ r ≡ isQuery command ⌝ }
@@ -150,6 +138,6 @@ pub(crate) fn is_query(command: Command) -> bool
         } => false,
         Command::Order(_) => false,
         Command::Outputs(_) => false,
-        Command::Read(r) => is_inputs(r),
+        Command::Read(r) => command::is_inputs(r),
     }
 }

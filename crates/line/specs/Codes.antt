@@ -93,3 +93,12 @@ isQuery (C.Start k waits) = false
 isQuery (C.Order c) = false
 isQuery (C.Outputs v) = false
 isQuery (C.Read r) = isInputs r
+
+-- A W line, query or not.
+abbrev pub isW : Command → Bool
+isW (C.Distance k minus d) = false
+isW (C.Set c v) = false
+isW (C.Start k waits) = false
+isW (C.Order c) = false
+isW (C.Outputs v) = true
+isW (C.Read r) = isInputs r

@@ -1,6 +1,7 @@
 // What a line asks for (chapter 7), and the one judgement of its ranges (paper 01, "Lines").
 // Every function is total: it has no premise and states its result for every input. Assumes nothing.
 ghost use mathlib.Core.Path.{_≡_};
+ghost use Rattle.line.specs.Codes.{isInputs, isW};
 ghost use Rattle.line.specs.Ranges.{isWithin, inputBits, settingFits, readingFits, distanceFits, isOrder, fits};
 
 // The axes.
@@ -20,7 +21,7 @@ pub enum Reading {
     Status,
     // q 8.
     Everything,
-    // W with no digits: the last tick's inputs.
+    // W with no digits: the inputs.
     Inputs,
 }
 
@@ -134,5 +135,39 @@ pub fn fits(command: Command) -> bool
         Command::Order(code) => is_order(code as u32),
         Command::Outputs(v) => v < digits::SIX_DIGITS,
         Command::Read(reading) => reading_fits(reading),
+    }
+}
+
+// Whether a reading is of the inputs: W with no digits.
+pub fn is_inputs(reading: Reading) -> bool
+    ensures { λ r. ⌜ r ≡ isInputs reading ⌝ }
+{
+    match reading {
+        Reading::Travel(_) => false,
+        Reading::Position(_) => false,
+        Reading::Status => false,
+        Reading::Everything => false,
+        Reading::Inputs => true,
+    }
+}
+
+// Whether a command is a W line's, query or not.
+pub fn is_w(command: Command) -> bool
+    ensures { λ r. ⌜ r ≡ isW command ⌝ }
+{
+    match command {
+        Command::Distance {
+            axis: _,
+            minus: _,
+            length: _,
+        } => false,
+        Command::Set { code: _, value: _ } => false,
+        Command::Start {
+            master: _,
+            waits: _,
+        } => false,
+        Command::Order(_) => false,
+        Command::Outputs(_) => true,
+        Command::Read(r) => is_inputs(r),
     }
 }

@@ -1,6 +1,7 @@
 -- What one call, a byte or a tick, does to the latest move, the next one and the positions. Assumes nothing.
 use Prim.Native.Nat.{ℕ, _+_, _<_}
 use mathlib.Core.Bool.{Bool, true, false, cond, not, _&&_, _||_}
+use mathlib.Core.List.{List}
 use mathlib.Core.Path.{_≡_, refl, sym, ap, subst, _∙_}
 use lib.Dec.{eqb}
 use lib.IntN.{ℤ, _+ℤ_}
@@ -10,7 +11,7 @@ use Rattle.machine.specs.State.{Plan, Move, Machine}
 use Rattle.machine.specs.Shares.{whole}
 use Rattle.machine.specs.Ramp.{runs}
 use Rattle.machine.specs.Stops.{takes, cause, stops}
-use Rattle.machine.specs.Steps.{Tried, untried, tries, runsOut, looks, ticked, refusedTick, failure, tooLarge}
+use Rattle.machine.specs.Steps.{Tried, untried, tries, runsOut, looks, failure, isShort, tooLarge, tickBy}
 use Rattle.machine.specs.Calls.{Call, byte, tick, after}
 use Rattle.machine.specs.Roles.{other, lineOf, named, takesEffect, stopsIn, sent, isTick, begins, atStart}
 use Rattle.machine.specs.List.{isPulse}
@@ -84,9 +85,10 @@ called-run m l s a S P z lk st rn = record {
     neither : begins S ≡ false → m .move .moving ≡ false → begins S || m .move .moving ≡ false
     neither p q = ap (λ (b : Bool). b || m .move .moving) p ∙ q
 
-pub called-tick : (m : Machine) (w : ℕ) → Good (m .move)
-    → Called m other (takesEffect m (m .pause) (tick w)) (stopsIn m (tick w)) true (sent m (tick w)) (after m (tick w))
-called-tick m w g = when (tooLarge w)
+pub called-tick : (m : Machine) (w : ℕ) (d : List ℕ) → Good (m .move)
+    → Called m other (takesEffect m (m .pause) (tick w d)) (stopsIn m (tick w d)) true (sent m (tick w d))
+    (after m (tick w d))
+called-tick m w d g = when (isShort d) (tooLarge w)
   where
     S : Tried
     S = cond (runsOut (takes m w)) (named (m .pause .waiting)) untried
@@ -99,16 +101,14 @@ called-tick m w g = when (tooLarge w)
         called-run m (looks m w) (stops (looks m w)) _ _ (cause (looks m w)) _ lk st
         (runs-is (stops (looks m w)) (st .good))
 
-    when : (t : Bool)
-        → Called m other
-        (cond (eqb (cond t (refusedTick m) (ticked (runs (stops (looks m w))) (failure (tries (takes m w)))) .number) 0)
-        S untried) (cond t false (cause (looks m w))) true
-        (λ k. cond t (refusedTick m) (ticked (runs (stops (looks m w))) (failure (tries (takes m w)))) .pulse k)
-        (cond t (refusedTick m) (ticked (runs (stops (looks m w))) (failure (tries (takes m w)))) .machine)
-    when true = called-same m m true g (record { next = refl; move = refl; position = refl })
-    when false = goes
+    when : (a b : Bool)
+        → Called m other (cond (eqb (tickBy m w a b .number) 0) S untried) (cond (a || b) false (cause (looks m w)))
+        true (λ k. tickBy m w a b .pulse k) (tickBy m w a b .machine)
+    when true b = called-same m m true g (record { next = refl; move = refl; position = refl })
+    when false true = called-same m m true g (record { next = refl; move = refl; position = refl })
+    when false false = goes
 
 pub called : (m : Machine) (x : Call) → Good (m .move)
     → Called m (lineOf m x) (takesEffect m (m .pause) x) (stopsIn m x) (isTick x) (sent m x) (after m x)
 called m (byte b buffer) g = called-byte m b buffer g
-called m (tick w) g = called-tick m w g
+called m (tick w d) g = called-tick m w d g

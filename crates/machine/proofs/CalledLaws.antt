@@ -7,7 +7,7 @@ use native.Mathlib.Omega.{arith}
 use lib.IntN.{ℤ, pos, _+ℤ_, +ℤ-idr, natAbs}
 use Rattle.laws.proofs.Tests.{true-false}
 use Rattle.laws.specs.Axes.{directed}
-use Rattle.machine.specs.State.{Plan, Move, Machine}
+use Rattle.machine.specs.State.{Plan, Move, Settle, Machine, withSettle}
 use Rattle.machine.specs.Shares.{whole}
 use Rattle.machine.specs.Steps.{Tried, untried}
 use Rattle.machine.specs.Roles.{Role, other, resetBy, distanceBy, minusBy, begins, atStart}
@@ -33,6 +33,28 @@ pub record Called (m : Machine) (L : Role) (S : Tried) (P t : Bool) (z : ℕ →
   pub idle : begins S ≡ false → m .move .moving ≡ false → (k : ℕ) → k < 5 → a .move .travel k ≡ m .move .travel k
   pub ending : t ≡ true → begins S || m .move .moving ≡ true → a .move .moving ≡ false
       → P || (not (begins S) && m .move .stopping) ≡ false → Whole (a .move) z
+
+-- What a W line waits for plays no part in it.
+pub called-settled : (m a : Machine) (x : Settle) {L : Role} {S : Tried} {P t : Bool} {z : ℕ → ℤ}
+    → Called m L S P t z a → Called m L S P t z (withSettle a x)
+called-settled m a x c = record {
+  good = c .good;
+  nextDistance = c .nextDistance;
+  nextMinus = c .nextMinus;
+  distance = c .distance;
+  minus = c .minus;
+  master = c .master;
+  count = c .count;
+  ticks = c .ticks;
+  sum = c .sum;
+  single = c .single;
+  sign = c .sign;
+  positive = c .positive;
+  goes = c .goes;
+  stopped = c .stopped;
+  idle = c .idle;
+  ending = c .ending;
+}
 
 -- A call that leaves the moves and the positions alone.
 pub record Same (m a : Machine) : Type 0 where

@@ -2,6 +2,7 @@
 -- entry exactly if the move ends in it. Assumes nothing.
 use Prim.Native.Nat.{ℕ, _+_, _-_}
 use mathlib.Core.Bool.{Bool, true, false, cond, not, _&&_, _||_}
+use mathlib.Core.List.{List}
 use mathlib.Core.Path.{_≡_, refl, sym, ap, _∙_}
 use native.Mathlib.Omega.{arith}
 use borrow.Author.Tests.{not-false, not-true}
@@ -14,7 +15,7 @@ use Rattle.machine.specs.Shares.{whole, gone, pulse}
 use Rattle.machine.specs.Entries.{EntryAnswer, noEntry, entry, entryOf}
 use Rattle.machine.specs.Ramp.{Ran, full, ramped, ended, stepped, advanced, pulsed, ramps, tallied, runs}
 use Rattle.machine.specs.Stops.{takes, cause, stops}
-use Rattle.machine.specs.Steps.{Tried, untried, tries, runsOut, looks, ticked, refusedTick, failure, tooLarge}
+use Rattle.machine.specs.Steps.{Tried, untried, tries, runsOut, looks, failure, isShort, tooLarge, tickBy}
 use Rattle.machine.specs.Steps.{tickStep}
 use Rattle.machine.specs.Calls.{tick, after}
 use Rattle.machine.specs.Roles.{named, takesEffect, begins, isTaken}
@@ -103,10 +104,10 @@ entered-refused m = record {
     never true = refl
     never false = refl
 
-pub entered-tick : (m : Machine) (w : ℕ) → Good (m .move)
-    → Entered m (takesEffect m (m .pause) (tick w)) (weight (isTaken (tick w)) 1) (tickStep m w .entry)
-    (after m (tick w))
-entered-tick m w g = when (tooLarge w)
+pub entered-tick : (m : Machine) (w : ℕ) (d : List ℕ) → Good (m .move)
+    → Entered m (takesEffect m (m .pause) (tick w d)) (weight (isTaken (tick w d)) 1) (tickStep m w d .entry)
+    (after m (tick w d))
+entered-tick m w d g = when (isShort d) (tooLarge w)
   where
     S : Tried
     S = cond (runsOut (takes m w)) (named (m .pause .waiting)) untried
@@ -117,11 +118,9 @@ entered-tick m w g = when (tooLarge w)
         let lk = looked m (takes m w) g (record { next = refl; move = refl; position = refl }) in
         entered-run m (looks m w) (stops (looks m w)) _ (cause (looks m w)) lk (stopped-is (looks m w) (lk .good))
 
-    when : (t : Bool)
-        → Entered m
-        (cond (eqb (cond t (refusedTick m) (ticked (runs (stops (looks m w))) (failure (tries (takes m w)))) .number) 0)
-        S untried) (weight (not t) 1)
-        (cond t (refusedTick m) (ticked (runs (stops (looks m w))) (failure (tries (takes m w)))) .entry)
-        (cond t (refusedTick m) (ticked (runs (stops (looks m w))) (failure (tries (takes m w)))) .machine)
-    when true = entered-refused m
-    when false = goes
+    when : (a b : Bool)
+        → Entered m (cond (eqb (tickBy m w a b .number) 0) S untried) (weight (not (a || b)) 1)
+        (tickBy m w a b .entry) (tickBy m w a b .machine)
+    when true b = entered-refused m
+    when false true = entered-refused m
+    when false false = goes

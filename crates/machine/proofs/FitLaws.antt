@@ -1,14 +1,13 @@
 -- Every machine that calls make from power-on is in range. Assumes nothing.
 use Prim.Native.Nat.{ℕ}
-use mathlib.Core.Bool.{Bool, true, false, cond}
+use mathlib.Core.Bool.{Bool, true, false}
 use mathlib.Core.List.{List, [], _∷_}
 use mathlib.Core.Path.{refl}
 use native.Mathlib.Omega.{arith}
 use Rattle.laws.proofs.Tests.{true-false}
 use Rattle.machine.specs.State.{Machine}
-use Rattle.machine.specs.Ramp.{runs}
-use Rattle.machine.specs.Stops.{takes, stops}
-use Rattle.machine.specs.Steps.{powerOn, tries, looks, ticked, refusedTick, failure, tooLarge, tickStep}
+use Rattle.machine.specs.Stops.{stops}
+use Rattle.machine.specs.Steps.{powerOn, looks, isShort, tooLarge, tickBy, tickStep}
 use Rattle.machine.specs.Calls.{Call, byte, tick, after, run, state}
 use Rattle.machine.proofs.ShareLaws.{share-none}
 pub use Rattle.machine.proofs.Fits.{PlanFits, WaitingFits, Fits}
@@ -36,17 +35,17 @@ fits-power s =
     }) (record { inside = λ k h. refl; room = λ q. true-false false q refl })
     (record { left = omega arith; waiting = omega arith })
 
-pub fits-tick : (m : Machine) (w : ℕ) → Fits m → Fits (tickStep m w .machine)
-fits-tick m w f = when (tooLarge w)
+pub fits-tick : (m : Machine) (w : ℕ) (d : List ℕ) → Fits m → Fits (tickStep m w d .machine)
+fits-tick m w d f = when (isShort d) (tooLarge w)
   where
-    when : (t : Bool) → Fits (cond t (refusedTick m)
-        (ticked (runs (stops (looks m w))) (failure (tries (takes m w)))) .machine)
-    when true = f
-    when false = fits-runs (stops (looks m w)) (fits-stops (looks m w) (fits-looks m w f))
+    when : (a b : Bool) → Fits (tickBy m w a b .machine)
+    when true b = f
+    when false true = f
+    when false false = fits-runs (stops (looks m w)) (fits-stops (looks m w) (fits-looks m w f))
 
 pub fits-after : (m : Machine) (x : Call) → Fits m → Fits (after m x)
 fits-after m (byte b buffer) f = fits-byte m b buffer f
-fits-after m (tick w) f = fits-tick m w f
+fits-after m (tick w d) f = fits-tick m w d f
 
 -- Every machine that calls make from power-on.
 pub fits : (s : ℕ) (h : List Call) → Fits (state s h)

@@ -117,7 +117,8 @@ fits-decided : (m : Machine) (b : ℕ) (silent : Bool) (ident : Ident) (j : Judg
 fits-decided m b silent ident (Refused n) f h = fits-refused m b n silent ident f
 fits-decided m b silent ident (Accepted c digits) f h =
     by-bool (λ (o : Outcome). Fits (answered m b o .machine)) (eqb (number m c) 0) _ _
-    (λ e. fits-does m b c f (h .command) (eqb-true (number m c) 0 e))
+    (λ e. fits-same (withWatch (does (heardBy m b) c) 0) _ (fits-does m b c f (h .command) (eqb-true (number m c) 0 e))
+    refl refl refl refl refl)
     (λ e. fits-refused m b (number m c) silent ident f)
 
 pub fits-byte : (m : Machine) (b : ℕ) (buffer : List ℕ) → Fits m → Fits (answered m b (outcome m b buffer) .machine)

@@ -33,20 +33,20 @@ next-ticks true R n o w q e = refl
 next-ticks false R n o w q e = ap (λ (x : ℕ). x + w) (e q)
 
 -- What a tick does after the list, the start that it tries being the one that the list stored.
-pub entered-on : (s : ℕ) (h : List Call) (w : ℕ)
-    → Entered (state s h) (effect s h (tick w)) (weight (isTaken (tick w)) 1) (tickStep (state s h) w .entry)
-    (after (state s h) (tick w))
-entered-on s h w =
+pub entered-on : (s : ℕ) (h : List Call) (w : ℕ) (d : List ℕ)
+    → Entered (state s h) (effect s h (tick w d)) (weight (isTaken (tick w d)) 1) (tickStep (state s h) w d .entry)
+    (after (state s h) (tick w d))
+entered-on s h w d =
     subst
-    (λ (p : Pause). Entered (state s h) (takesEffect (state s h) p (tick w)) (weight (isTaken (tick w)) 1)
-    (tickStep (state s h) w .entry) (after (state s h) (tick w)))
-    (told s h .pause) (entered-tick (state s h) w (told s h .good))
+    (λ (p : Pause). Entered (state s h) (takesEffect (state s h) p (tick w d)) (weight (isTaken (tick w d)) 1)
+    (tickStep (state s h) w d .entry) (after (state s h) (tick w d)))
+    (told s h .pause) (entered-tick (state s h) w d (told s h .good))
 
 -- What a call adds to them.
 pub adds : (s : ℕ) (h : List Call) (x : Call) → begins (effect s h x) || state s h .move .moving ≡ true
     → after (state s h) x .move .ticks ≡ cond (begins (effect s h x)) 0 (state s h .move .ticks) + weight (isTaken x) 1
 adds s h (byte b buffer) q = called-on s h (byte b buffer) (told s h) .ticks refl ∙ omega arith
-adds s h (tick w) q = entered-on s h w .ticks q
+adds s h (tick w d) q = entered-on s h w d .ticks q
 
 -- A running move's ticks are those of the list.
 pub ticks-run : (s : ℕ) (h : List Call) → state s h .move .moving ≡ true → state s h .move .ticks ≡ ticksSince s h
@@ -66,15 +66,15 @@ ticks-next s h x q =
 -- ---- The entry
 
 -- The tick w ends a move that ran or began in it.
-abbrev pub ending : ℕ → List Call → ℕ → Bool
-ending s h w =
-    (begins (effect s h (tick w)) || state s h .move .moving) && not (after (state s h) (tick w) .move .moving)
+abbrev pub ending : ℕ → List Call → ℕ → List ℕ → Bool
+ending s h w d =
+    (begins (effect s h (tick w d)) || state s h .move .moving) && not (after (state s h) (tick w d) .move .moving)
 
-pub ending-is : (s : ℕ) (h : List Call) (w : ℕ) → ending s h w ≡ ends s (tick w ∷ h)
+pub ending-is : (s : ℕ) (h : List Call) (w : ℕ) (d : List ℕ) → ending s h w d ≡ ends s (tick w d ∷ h)
 unfolding run ends
-ending-is s h w i =
-    (begins (effect s h (tick w)) || told s h .goes i)
-    && not (sym (status-moving (after (state s h) (tick w))) i)
+ending-is s h w d i =
+    (begins (effect s h (tick w d)) || told s h .goes i)
+    && not (sym (status-moving (after (state s h) (tick w d))) i)
 
 -- A list's entry is that of its machine, if the ticks are.
 entry-is : (s : ℕ) (h : List Call) → state s h .move .ticks ≡ ticksSince s h → entryOf (state s h .move) ≡ moveEntry s h
@@ -99,10 +99,10 @@ told-if : (t : Bool) (x y : Entry) → (t ≡ true → x ≡ y) → cond t (entr
 told-if true x y e = ap entry (e refl)
 told-if false x y e = refl
 
-pub answered-tick : (s : ℕ) (h : List Call) (w : ℕ)
-    → tickStep (state s h) w .entry ≡ cond (ends s (tick w ∷ h)) (entry (moveEntry s (tick w ∷ h))) noEntry
+pub answered-tick : (s : ℕ) (h : List Call) (w : ℕ) (d : List ℕ)
+    → tickStep (state s h) w d .entry ≡ cond (ends s (tick w d ∷ h)) (entry (moveEntry s (tick w d ∷ h))) noEntry
 unfolding run
-answered-tick s h w =
-    entered-on s h w .entry
-    ∙ (told-if (ending s h w) _ _ (λ q. entry-is s (tick w ∷ h) (ticks-next s h (tick w) (both _ _ q .0)))
-    ∙ ap (λ (b : Bool). cond b (entry (moveEntry s (tick w ∷ h))) noEntry) (ending-is s h w))
+answered-tick s h w d =
+    entered-on s h w d .entry
+    ∙ (told-if (ending s h w d) _ _ (λ q. entry-is s (tick w d ∷ h) (ticks-next s h (tick w d) (both _ _ q .0)))
+    ∙ ap (λ (b : Bool). cond b (entry (moveEntry s (tick w d ∷ h))) noEntry) (ending-is s h w d))

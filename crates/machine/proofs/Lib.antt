@@ -29,5 +29,9 @@ pub mod JournalLaws
 pub mod TakenLaws
 pub mod WatchStageLaws
 pub mod WatchLaws
+pub mod SettleStageLaws
+pub mod WLineLaws
+pub mod SettleLaws
+pub mod LentLaws
 pub mod MarkedLaws
 pub mod FlaggedLaws

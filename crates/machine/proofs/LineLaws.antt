@@ -20,7 +20,7 @@ use Rattle.machine.specs.Roles.{other, dwellLine, startLine, stopOrder, 
 use Rattle.machine.proofs.BitLaws.{status-moving}
 use Rattle.machine.proofs.Outcomes.{by-outcome}
 use Rattle.machine.proofs.Runs.{Good}
-use Rattle.machine.proofs.CalledLaws.{Called, called-same}
+use Rattle.machine.proofs.CalledLaws.{Called, called-same, called-settled}
 use Rattle.machine.proofs.ReadyLaws.{passed, ready}
 use Rattle.machine.proofs.EffectLaws.{called-start, called-quiet, called-distance, called-reset, called-stop}
 
@@ -109,4 +109,5 @@ called-byte m b buffer g =
     by-outcome m (Byte m b) (called-same m _ false g (record { next = refl; move = refl; position = refl }))
     (called-same m _ false g (record { next = refl; move = refl; position = refl }))
     (λ n silent ident. called-refused m b n silent ident g)
-    (λ c digits silent ident e. called-accepted m b c g e) b buffer
+    (λ c digits silent ident e. called-settled m (withWatch (does (heardBy m b) c) 0) _ (called-accepted m b c g e))
+    b buffer

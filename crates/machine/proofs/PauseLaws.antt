@@ -2,9 +2,9 @@
 -- that the call's line or tick leaves; and so is the dwell set. Assumes nothing.
 use Prim.Native.Nat.{ℕ, _-_, _*_}
 use mathlib.Core.Bool.{Bool, true, false, cond, not, _&&_, _||_}
+use mathlib.Core.List.{List}
 use mathlib.Core.Path.{_≡_, refl, sym, ap, _∙_}
 use lib.Dec.{eqb}
-use Rattle.laws.proofs.Pick.{by-bool}
 use Rattle.machine.specs.State.{Machine, none, Pause}
 use Rattle.machine.specs.Ramp.{runs}
 use Rattle.machine.specs.Stops.{takes, stops}
@@ -14,11 +14,9 @@ use Rattle.machine.specs.Steps.{
   tries,
   runsOut,
   looks,
-  ticked,
-  refusedTick,
-  failure,
+  isShort,
   tooLarge,
-  TickAnswer,
+  tickBy,
 }
 use Rattle.machine.specs.Calls.{Call, byte, tick, after}
 use Rattle.machine.specs.Roles.{lineOf, begins, named, dwellBy, moves, pauseAfter}
@@ -27,8 +25,9 @@ use Rattle.machine.proofs.PauseLineLaws.{byte-pause}
 use Rattle.machine.proofs.PauseStageLaws.{effective, Looked, looked, Same, stops-same, still, Ramped, runs-pause}
 
 -- A tick after a tick's ramp.
-tick-pause : (m : Machine) (w : ℕ) → after m (tick w) .pause ≡ pauseAfter m (m .pause) (m .settings .dwell) (tick w)
-tick-pause m w = when (tooLarge w)
+tick-pause : (m : Machine) (w : ℕ) (d : List ℕ)
+    → after m (tick w d) .pause ≡ pauseAfter m (m .pause) (m .settings .dwell) (tick w d)
+tick-pause m w d = when (isShort d) (tooLarge w)
   where
     l : Looked (takes m w) (runsOut (takes m w))
         (effective (runsOut (takes m w)) (tries (takes m w)) (m .pause .waiting)) (looks m w)
@@ -60,45 +59,48 @@ tick-pause m w = when (tooLarge w)
       waiting = (r .waiting ∙ (ap (λ (x : Pause). x .waiting) (s .pause) ∙ l .waiting)) i;
     }
 
-    when : (t : Bool)
-        → cond t (refusedTick m) (ticked (runs (stops (looks m w))) (failure (tries (takes m w)))) .machine .pause
+    refused : m .pause
         ≡ record {
-          left =
-              cond
-              ((begins
-              (cond
-              (eqb (cond t (refusedTick m) (ticked (runs (stops (looks m w))) (failure (tries (takes m w)))) .number) 0)
-              (cond (runsOut (takes m w)) (named (m .pause .waiting)) untried) untried)
-              || moves m)
-              && not (moves
-              (cond t (refusedTick m) (ticked (runs (stops (looks m w))) (failure (tries (takes m w)))) .machine)))
-              (250 * m .settings .dwell)
-              (cond
-              (begins
-              (cond
-              (eqb (cond t (refusedTick m) (ticked (runs (stops (looks m w))) (failure (tries (takes m w)))) .number) 0)
-              (cond (runsOut (takes m w)) (named (m .pause .waiting)) untried) untried))
-              0
-              (cond (not t) (m .pause .left - 1) (m .pause .left)));
-          waiting = cond t (m .pause .waiting) (cond (runsOut (takes m w)) none (m .pause .waiting));
+          left = cond (moves m && not (moves m)) (250 * m .settings .dwell) (m .pause .left);
+          waiting = m .pause .waiting;
         }
-    when true = λ i. record {
+    refused = λ i. record {
       left = still (moves m) (250 * m .settings .dwell) (m .pause .left) i;
       waiting = m .pause .waiting;
     }
-    when false = ran
 
-tick-dwell : (m : Machine) (w : ℕ) → after m (tick w) .settings .dwell ≡ m .settings .dwell
-tick-dwell m w =
-    by-bool (λ (x : TickAnswer). x .machine .settings .dwell ≡ m .settings .dwell) (tooLarge w) _ _ (λ e. refl)
-    (λ e. runs-pause (stops (looks m w)) .dwell ∙ (stops-same (looks m w) .dwell ∙ looked (takes m w) .dwell))
+    -- The start that takes effect.
+    E : Bool → Bool → Tried
+    E a b =
+        cond (eqb (tickBy m w a b .number) 0) (cond (runsOut (takes m w)) (named (m .pause .waiting)) untried) untried
+
+    when : (a b : Bool)
+        → tickBy m w a b .machine .pause
+        ≡ record {
+          left =
+              cond ((begins (E a b) || moves m) && not (moves (tickBy m w a b .machine))) (250 * m .settings .dwell)
+              (cond (begins (E a b)) 0 (cond (not (a || b)) (m .pause .left - 1) (m .pause .left)));
+          waiting = cond (a || b) (m .pause .waiting) (cond (runsOut (takes m w)) none (m .pause .waiting));
+        }
+    when true b = refused
+    when false true = refused
+    when false false = ran
+
+tick-dwell : (m : Machine) (w : ℕ) (d : List ℕ) → after m (tick w d) .settings .dwell ≡ m .settings .dwell
+tick-dwell m w d = when (isShort d) (tooLarge w)
+  where
+    when : (a b : Bool) → tickBy m w a b .machine .settings .dwell ≡ m .settings .dwell
+    when true b = refl
+    when false true = refl
+    when false false =
+        runs-pause (stops (looks m w)) .dwell ∙ (stops-same (looks m w) .dwell ∙ looked (takes m w) .dwell)
 
 -- ---- Calls
 
 pub pause-next : (m : Machine) (x : Call) → after m x .pause ≡ pauseAfter m (m .pause) (m .settings .dwell) x
 pause-next m (byte b buffer) = byte-pause m b buffer .pause
-pause-next m (tick w) = tick-pause m w
+pause-next m (tick w d) = tick-pause m w d
 
 pub dwell-next : (m : Machine) (x : Call) → after m x .settings .dwell ≡ dwellBy (lineOf m x) (m .settings .dwell)
 dwell-next m (byte b buffer) = byte-pause m b buffer .dwell
-dwell-next m (tick w) = tick-dwell m w
+dwell-next m (tick w d) = tick-dwell m w d

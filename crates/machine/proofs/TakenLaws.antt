@@ -67,24 +67,24 @@ weight-small : (b : Bool) → weight b 1 ≤ 1
 weight-small true = omega arith
 weight-small false = omega arith
 
-module _ (s : ℕ) (h : List Call) (w : ℕ) (e : ending s h w ≡ true) where
-  runs : begins (effect s h (tick w)) || state s h .move .moving ≡ true
+module _ (s : ℕ) (h : List Call) (w : ℕ) (d : List ℕ) (e : ending s h w d ≡ true) where
+  runs : begins (effect s h (tick w d)) || state s h .move .moving ≡ true
   runs = both _ _ e .0
 
   -- The ticks of the list, by those of the machine before the tick.
-  ticks-are : cond (begins (effect s h (tick w))) 0 (state s h .move .ticks) + weight (isTaken (tick w)) 1
-      ≡ ticksSince s (tick w ∷ h)
-  ticks-are = sym (adds s h (tick w) runs) ∙ ticks-next s h (tick w) runs
+  ticks-are : cond (begins (effect s h (tick w d))) 0 (state s h .move .ticks) + weight (isTaken (tick w d)) 1
+      ≡ ticksSince s (tick w d ∷ h)
+  ticks-are = sym (adds s h (tick w d) runs) ∙ ticks-next s h (tick w d) runs
 
-  ticks-least : 1 ≤ ticksSince s (tick w ∷ h)
+  ticks-least : 1 ≤ ticksSince s (tick w d ∷ h)
   ticks-least =
-      subst (λ (n : ℕ). 1 ≤ n) ticks-are (let t = entered-on s h w .taken e in omega (arith, t))
+      subst (λ (n : ℕ). 1 ≤ n) ticks-are (let t = entered-on s h w d .taken e in omega (arith, t))
 
-  ticks-most : ticksSince s (tick w ∷ h) ≤ ticksRange .most
+  ticks-most : ticksSince s (tick w d ∷ h) ≤ ticksRange .most
   ticks-most =
       subst (λ (n : ℕ). n ≤ ticksRange .most) ticks-are
-      (ticks-small (begins (effect s h (tick w))) (state s h .move .moving) _ _ runs
-      (weight-small (isTaken (tick w))) (running-small s h))
+      (ticks-small (begins (effect s h (tick w d))) (state s h .move .moving) _ _ runs
+      (weight-small (isTaken (tick w d))) (running-small s h))
 
 -- ---- The travels
 
@@ -98,12 +98,13 @@ cause-small : (b : Bool) → cond b 0 1 ≤ 1
 cause-small true = omega arith
 cause-small false = omega arith
 
-taken-tick : (s : ℕ) (h : List Call) (w : ℕ) → ends s (tick w ∷ h) ≡ true → fits (moveEntry s (tick w ∷ h)) ≡ true
-taken-tick s h w e =
-    let q = ending-is s h w ∙ e in
-    fits-is (ticksSince s (tick w ∷ h)) _ (moved s (tick w ∷ h)) (ticks-least s h w q) (ticks-most s h w q)
-    (cause-small (eqb (counted s (tick w ∷ h) (master s (tick w ∷ h))) (whole s (tick w ∷ h))))
-    (travel-small s (tick w ∷ h))
+taken-tick : (s : ℕ) (h : List Call) (w : ℕ) (d : List ℕ) → ends s (tick w d ∷ h) ≡ true
+    → fits (moveEntry s (tick w d ∷ h)) ≡ true
+taken-tick s h w d e =
+    let q = ending-is s h w d ∙ e in
+    fits-is (ticksSince s (tick w d ∷ h)) _ (moved s (tick w d ∷ h)) (ticks-least s h w d q) (ticks-most s h w d q)
+    (cause-small (eqb (counted s (tick w d ∷ h) (master s (tick w d ∷ h))) (whole s (tick w d ∷ h))))
+    (travel-small s (tick w d ∷ h))
 
 -- A move under way: its count is the list's.
 counts-run : (s : ℕ) (h : List Call) → goesOn s h ≡ true
@@ -121,8 +122,8 @@ journal-is s (byte b buffer ∷ h) = record {
   taken = λ q. true-false false q refl;
   counts = counts-run s (byte b buffer ∷ h);
 }
-journal-is s (tick w ∷ h) = record {
-  answered = answered-tick s h w;
-  taken = taken-tick s h w;
-  counts = counts-run s (tick w ∷ h);
+journal-is s (tick w d ∷ h) = record {
+  answered = answered-tick s h w d;
+  taken = taken-tick s h w d;
+  counts = counts-run s (tick w d ∷ h);
 }

@@ -1,14 +1,14 @@
 -- The watch, for every list of calls: its setting and its count are those of the list, and a running move is stopped
 -- where the count is full with watch bit 0. Assumes nothing.
 use Prim.Native.Nat.{ℕ, _+_, min}
-use mathlib.Core.Bool.{Bool, true, false, _&&_, _||_, or-true}
+use mathlib.Core.Bool.{Bool, true, false, cond, _&&_, _||_, or-true}
 use mathlib.Core.List.{List, [], _∷_}
 use mathlib.Core.Path.{_≡_, refl, sym, ap, _∙_}
 use native.Mathlib.Omega.{arith}
 use borrow.Author.Tests.{le-leb, lt-leb, leb-true, leb-false}
-use lib.Dec.{leb}
+use lib.Dec.{leb, eqb}
 use Rattle.laws.specs.Bits.{bit}
-use Rattle.laws.proofs.Tests.{true-false, both, second}
+use Rattle.laws.proofs.Tests.{true-false, both, neither, second}
 use Rattle.machine.specs.State.{Machine, Flags, Pause}
 use Rattle.machine.specs.Stops.{
   blocked,
@@ -21,9 +21,10 @@ use Rattle.machine.specs.Stops.{
   stops,
   status,
 }
-use Rattle.machine.specs.Steps.{Outcome, untaken, gathered, refused, accepted, outcome, looks, tooLarge, tickStep}
+use Rattle.machine.specs.Steps.{Outcome, untaken, gathered, refused, accepted, outcome, looks}
+use Rattle.machine.specs.Steps.{untried, isShort, tooLarge, tickTurned, tickBy, tickStep}
 use Rattle.machine.specs.Calls.{Call, byte, tick, run, state}
-use Rattle.machine.specs.Roles.{begins, roleBy, startBy, stopBy, stopsIn, takesEffect}
+use Rattle.machine.specs.Roles.{begins, named, roleBy, startBy, stopBy, stopsIn, takesEffect}
 use Rattle.machine.specs.List.{effect, paused, stopBegun, goesOn}
 use Rattle.machine.specs.Watch.{watchBy, zeroes, lastWatch, ticksUnheard, watchStops, otherCause, Watch}
 use Rattle.machine.proofs.PauseStageLaws.{looked}
@@ -37,12 +38,12 @@ use Rattle.machine.proofs.WatchStageLaws.{
   count-next,
 }
 
-setting-is : (s : ℕ) (h : List Call) → state s h .settings .watch ≡ lastWatch s h
+pub setting-is : (s : ℕ) (h : List Call) → state s h .settings .watch ≡ lastWatch s h
 unfolding run lastWatch
 setting-is s [] = refl
 setting-is s (x ∷ h) = rw (sym (setting-is s h)) (setting-next (state s h) x)
 
-count-is : (s : ℕ) (h : List Call) → state s h .watch ≡ min watchMost (ticksUnheard s h)
+pub count-is : (s : ℕ) (h : List Call) → state s h .watch ≡ min watchMost (ticksUnheard s h)
 unfolding run ticksUnheard
 count-is s [] = refl
 count-is s (x ∷ h) = count-next (state s h) x (ticksUnheard s h) (count-is s h)
@@ -61,7 +62,7 @@ among false false false true = refl
 among false false false false = refl
 
 -- One tick more, up to the full count.
-fills : (n : ℕ) → leb watchMost (min watchMost (min watchMost n + 1)) ≡ leb watchMost (n + 1)
+pub fills : (n : ℕ) → leb watchMost (min watchMost (min watchMost n + 1)) ≡ leb watchMost (n + 1)
 fills n = when (leb watchMost (n + 1)) refl
   where
     when : (t : Bool) → leb watchMost (n + 1) ≡ t → leb watchMost (min watchMost (min watchMost n + 1)) ≡ t
@@ -73,10 +74,10 @@ fills n = when (leb watchMost (n + 1)) refl
         lt-leb watchMost (min watchMost (min watchMost n + 1)) (omega (arith, l))
 
 -- As the stop causes look at the machine, the watch is the list's with the tick.
-full-is : (s : ℕ) (h : List Call) (w : ℕ) → tooLarge w ≡ false
-    → watchFull (looks (state s h) w) 0 ≡ watchStops s (tick w ∷ h)
+full-is : (s : ℕ) (h : List Call) (w : ℕ) (d : List ℕ) → tickTurned w d ≡ false
+    → watchFull (looks (state s h) w) 0 ≡ watchStops s (tick w d ∷ h)
 unfolding lastWatch ticksUnheard
-full-is s h w e =
+full-is s h w d e =
     let k = looks-kept (state s h) w in
     rw e
     ((λ i. leb watchMost ((k .count ∙ ap (λ (n : ℕ). min watchMost (n + 1)) (count-is s h)) i)
@@ -84,40 +85,46 @@ full-is s h w e =
     ∙ ap (λ (b : Bool). b && bit (lastWatch s h) 0) (fills (ticksUnheard s h)))
 
 -- And a move runs there that ran before or begins in the tick.
-moving-is : (s : ℕ) (h : List Call) (w : ℕ) → tooLarge w ≡ false
-    → looks (state s h) w .move .moving ≡ begins (effect s h (tick w)) || goesOn s h
-moving-is s h w e =
-    rw e (looked (takes (state s h) w) .moving)
-    ∙ (λ i. begins (takesEffect (state s h) (told s h .pause i) (tick w)) || told s h .goes i)
+moving-is : (s : ℕ) (h : List Call) (w : ℕ) (d : List ℕ) → tickTurned w d ≡ false
+    → looks (state s h) w .move .moving ≡ begins (effect s h (tick w d)) || goesOn s h
+moving-is s h w d e =
+    let n = neither (isShort d) (tooLarge w) e in
+    rw (n .0, n .1) (looked (takes (state s h) w) .moving)
+    ∙ (λ i. begins (takesEffect (state s h) (told s h .pause i) (tick w d)) || told s h .goes i)
 
-begins-is : (s : ℕ) (h : List Call) (w : ℕ) → tooLarge w ≡ false → begins (effect s h (tick w)) || goesOn s h ≡ true
-    → stopsIn (state s h) (tick w) ≡ watchStops s (tick w ∷ h) || otherCause (looks (state s h) w)
-begins-is s h w e r =
+begins-is : (s : ℕ) (h : List Call) (w : ℕ) (d : List ℕ) → tickTurned w d ≡ false
+    → begins (effect s h (tick w d)) || goesOn s h ≡ true
+    → stopsIn (state s h) (tick w d) ≡ watchStops s (tick w d ∷ h) || otherCause (looks (state s h) w)
+begins-is s h w d e r =
     let l = looks (state s h) w in
     rw e
-    ((λ i. (moving-is s h w e ∙ r) i && (l .flags .emergency || sensorActive l
+    ((λ i. (moving-is s h w d e ∙ r) i && (l .flags .emergency || sensorActive l
     || (blocked l (l .move .plan) || watchFull l 0)))
     ∙ (among (l .flags .emergency) (sensorActive l) (blocked l (l .move .plan)) (watchFull l 0)
-    ∙ ap (λ (b : Bool). b || otherCause l) (full-is s h w e)))
+    ∙ ap (λ (b : Bool). b || otherCause l) (full-is s h w d e)))
 
 -- Where the watch stops it, the stop is marked in the status.
-told-is : (s : ℕ) (h : List Call) (w : ℕ) → tooLarge w ≡ false → begins (effect s h (tick w)) || goesOn s h ≡ true
-    → watchStops s (tick w ∷ h) ≡ true → bit (status (state s (tick w ∷ h))) 3 ≡ true
+told-is : (s : ℕ) (h : List Call) (w : ℕ) (d : List ℕ) → tickTurned w d ≡ false
+    → begins (effect s h (tick w d)) || goesOn s h ≡ true
+    → watchStops s (tick w d ∷ h) ≡ true → bit (status (state s (tick w d ∷ h))) 3 ≡ true
 unfolding run
-told-is s h w e r f = status-stopped (state s (tick w ∷ h)) marked
+told-is s h w d e r f = status-stopped (state s (tick w d ∷ h)) marked
   where
     l : Machine
     l = looks (state s h) w
 
     limited : limitOrWatch l ≡ true
-    limited = ap (λ (b : Bool). blocked l (l .move .plan) || b) (full-is s h w e ∙ f)
+    limited = ap (λ (b : Bool). blocked l (l .move .plan) || b) (full-is s h w d e ∙ f)
         ∙ or-true (blocked l (l .move .plan))
 
     causes : cause l ≡ true
-    causes = (rw e at (begins-is s h w e r)) ∙ ap (λ (b : Bool). b || otherCause l) f
+    causes = (rw e at (begins-is s h w d e r)) ∙ ap (λ (b : Bool). b || otherCause l) f
 
-    marked : tickStep (state s h) w .machine .flags .stopped ≡ true
-    marked = rw e (ap (λ (x : Flags). x .stopped) (runs-ramped (stops l) .flags) ∙ stops-marked l causes limited)
+    marked : tickStep (state s h) w d .machine .flags .stopped ≡ true
+    marked =
+        let n = neither (isShort d) (tooLarge w) e in
+        rw (n .0, n .1)
+        (ap (λ (x : Flags). x .stopped) (runs-ramped (stops l) .flags) ∙ stops-marked l causes limited)
 
 -- ---- Of a list
 
@@ -146,20 +153,30 @@ by-byte s h b buffer g f before false e =
     let l = left (outcome (state s h) b buffer) (paused s h) (state s h) (lastWatch s h) e in
     rw (l .start, l .stop) (before (second _ _ (both _ _ g .0) (l .start)) (rw (e, l .watch) at f))
 
-by-tick : (s : ℕ) (h : List Call) (w : ℕ) → goesOn s (tick w ∷ h) ≡ true → watchStops s (tick w ∷ h) ≡ true → Stops s h
-    → (t : Bool) → tooLarge w ≡ t → stopBegun s (tick w ∷ h) ≡ true
+-- A tick that is turned away starts nothing.
+no-start : (m : Machine) (p : Pause) (w : ℕ) (a b : Bool) → a || b ≡ true
+    → begins (cond (eqb (tickBy m w a b .number) 0) (cond (eqb (p .left) 1) (named (p .waiting)) untried) untried)
+    ≡ false
+no-start m p w true b e = refl
+no-start m p w false true e = refl
+no-start m p w false false e = true-false false e refl
+
+by-tick : (s : ℕ) (h : List Call) (w : ℕ) (d : List ℕ) → goesOn s (tick w d ∷ h) ≡ true
+    → watchStops s (tick w d ∷ h) ≡ true → Stops s h
+    → (t : Bool) → tickTurned w d ≡ t → stopBegun s (tick w d ∷ h) ≡ true
 unfolding lastWatch ticksUnheard goesOn stopBegun
-by-tick s h w g f before true e =
-    let r = both (begins (effect s h (tick w)) || goesOn s h) _ g .0 in
-    rw e (before (rw e at r) (rw e at f))
-by-tick s h w g f before false e = rw (begins-is s h w e (both _ _ g .0), f) refl
+by-tick s h w d g f before true e =
+    let r = both (begins (effect s h (tick w d)) || goesOn s h) _ g .0 in
+    let n = no-start (state s h) (paused s h) w (isShort d) (tooLarge w) e in
+    rw (e, n) (before (second _ _ r n) (rw e at f))
+by-tick s h w d g f before false e = rw (begins-is s h w d e (both _ _ g .0), f) refl
 
 stopped-is : (s : ℕ) (h : List Call) → Stops s h
 unfolding goesOn
 stopped-is s [] g f = true-false false g refl
 stopped-is s (byte b buffer ∷ h) g f =
     by-byte s h b buffer g f (stopped-is s h) (zeroes (outcome (state s h) b buffer)) refl
-stopped-is s (tick w ∷ h) g f = by-tick s h w g f (stopped-is s h) (tooLarge w) refl
+stopped-is s (tick w d ∷ h) g f = by-tick s h w d g f (stopped-is s h) (tickTurned w d) refl
 
 pub watched : Watch
 watched s h = record {

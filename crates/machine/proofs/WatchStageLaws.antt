@@ -1,6 +1,6 @@
 -- What a call does to the watch setting and the watch count. Assumes nothing.
 use Prim.Native.Nat.{ℕ, _+_, min}
-use mathlib.Core.Bool.{Bool, true, false, cond, not, _&&_, or-true}
+use mathlib.Core.Bool.{Bool, true, false, cond, not, _&&_, _||_, or-true}
 use mathlib.Core.List.{List}
 use mathlib.Core.Path.{_≡_, refl, ap, _∙_}
 use native.Mathlib.Omega.{arith}
@@ -28,11 +28,10 @@ use Rattle.machine.specs.Steps.{
   began,
   tries,
   waits,
-  failure,
   looks,
-  ticked,
+  isShort,
   tooLarge,
-  refusedTick,
+  tickBy,
 }
 use Rattle.machine.specs.Calls.{Call, byte, tick, after}
 use Rattle.machine.specs.Watch.{watchOf, watchBy, zeroes, watchAfter, unheardAfter}
@@ -135,13 +134,12 @@ byte-watch m b =
 
 pub setting-next : (m : Machine) (x : Call) → after m x .settings .watch ≡ watchAfter m x (m .settings .watch)
 setting-next m (byte b buffer) = byte-watch m b buffer .setting
-setting-next m (tick w) = when (tooLarge w)
+setting-next m (tick w d) = when (isShort d) (tooLarge w)
   where
-    when : (t : Bool)
-        → cond t (refusedTick m) (ticked (runs (stops (looks m w))) (failure (tries (takes m w)))) .machine .settings
-        .watch ≡ m .settings .watch
-    when true = refl
-    when false = ran-kept m w .setting
+    when : (a b : Bool) → tickBy m w a b .machine .settings .watch ≡ m .settings .watch
+    when true b = refl
+    when false true = refl
+    when false false = ran-kept m w .setting
 
 -- The count is that of the ticks n, up to the full one.
 pub count-next : (m : Machine) (x : Call) (n : ℕ) → m .watch ≡ min watchMost n
@@ -151,10 +149,9 @@ count-next m (byte b buffer) n e = byte-watch m b buffer .count ∙ when (zeroes
     when : (t : Bool) → cond t 0 (m .watch) ≡ min watchMost (cond t 0 n)
     when true = refl
     when false = e
-count-next m (tick w) n e = when (tooLarge w)
+count-next m (tick w d) n e = when (isShort d) (tooLarge w)
   where
-    when : (t : Bool)
-        → cond t (refusedTick m) (ticked (runs (stops (looks m w))) (failure (tries (takes m w)))) .machine .watch
-        ≡ min watchMost (cond t n (n + 1))
-    when true = e
-    when false = ran-kept m w .count ∙ omega (arith, e)
+    when : (a b : Bool) → tickBy m w a b .machine .watch ≡ min watchMost (cond (a || b) n (n + 1))
+    when true b = e
+    when false true = e
+    when false false = ran-kept m w .count ∙ omega (arith, e)

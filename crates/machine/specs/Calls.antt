@@ -9,14 +9,15 @@ use Rattle.machine.specs.State.{Machine}
 use Rattle.machine.specs.Steps.{powerOn, byteStep, tickStep}
 
 -- The list holds two kinds of call: a received byte with the content of its lent reply buffer, and a tick with its
--- input word. Bytes and words have any value, buffers any length and content.
+-- input word and the content of its lent reply buffer (paper 02, 3/14). Bytes and words have any value, buffers any
+-- length and content.
 pub data Call : Type 0 where
   byte : ℕ → List ℕ → Call
-  tick : ℕ → Call
+  tick : ℕ → List ℕ → Call
 
 abbrev pub after : Machine → Call → Machine
 after m (byte b buffer) = byteStep m b buffer .machine
-after m (tick word) = tickStep m word .machine
+after m (tick word buffer) = tickStep m word buffer .machine
 
 -- What the first call gets: what power-on with a switch gave, or a given machine.
 pub data Origin : Type 0 where
@@ -61,7 +62,7 @@ abbrev pub lines : List String → List Call → List Call
 lines [] h = h
 lines (l ∷ ls) h = lines ls (line l h)
 
--- n ticks with the input word w.
+-- n ticks with the input word w, each with such a buffer.
 abbrev pub ticks : ℕ → ℕ → List Call → List Call
 ticks zero w h = h
-ticks (suc n) w h = tick w ∷ ticks n w h
+ticks (suc n) w h = tick w buffer ∷ ticks n w h

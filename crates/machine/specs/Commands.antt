@@ -3,13 +3,16 @@ use Prim.Native.Nat.{ℕ}
 use mathlib.Core.Bool.{Bool, true, false, cond, _&&_}
 use lib.Dec.{ltb, leb, eqb}
 use lib.IntN.{pos}
+use Rattle.digits.specs.declared.Ident.{Ident}
 use Rattle.line.specs.declared.command.Command.{Command}
 use Rattle.line.specs.declared.command.Command.the-variants as C
+use Rattle.line.specs.Codes.{isW}
 use Rattle.line.specs.Ranges.{isWithin}
 use Rattle.machine.specs.State.{
   Plan,
   none,
   start,
+  Settle,
   Machine,
   put,
   mark,
@@ -21,6 +24,7 @@ use Rattle.machine.specs.State.{
   withWatch,
   withFlags,
   withPause,
+  withSettle,
 }
 use Rattle.machine.specs.Stops.{emergencyActive, stopping, marks}
 use Rattle.machine.specs.Starts.{turnedBy, startNumber, begun, notes}
@@ -96,6 +100,14 @@ does m (C.Start k waits) = obeysStart m k waits
 does m (C.Order code) = obeys m code
 does m (C.Outputs v) = withOutputs m v
 does m (C.Read r) = m
+
+-- Paper 02, 3/14: the block of an accepted W line comes in the answer of the 2,500th accepted tick after it. It takes
+-- the earlier one's place; a silent one does so too and gives none.
+abbrev pub settleBy : Command → Bool → Ident → Settle → Settle
+settleBy c silent ident old = cond (isW c) (record { left = cond silent 0 2500; ident = ident }) old
+
+abbrev pub awaits : Machine → Command → Bool → Ident → Machine
+awaits m c silent ident = withSettle m (settleBy c silent ident (m .settle))
 
 -- Lines turned away by 10 to 17 zero the watch count, as accepted ones do; 14 sets bit 2.
 abbrev pub turned : Machine → ℕ → Machine

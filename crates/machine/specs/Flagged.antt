@@ -4,13 +4,13 @@ use mathlib.Core.List.{List, [], _∷_}
 use mathlib.Core.Path.{_≡_}
 use Rattle.machine.specs.State.{start}
 use Rattle.machine.specs.Stops.{status}
-use Rattle.machine.specs.Calls.{Call, tick, state, line, lines}
+use Rattle.machine.specs.Calls.{Call, tick, state, buffer, line, lines}
 
 -- With a dwell of 1 ms and the sensor high-ON a move begins with master 2, order 9 sets bit 3, and the sensor, active
 -- in the next tick, bit 6. That tick ends the move, and the dwell runs.
 abbrev pub flagged : List Call
 flagged =
-    tick 8192
+    tick 8192 buffer
     ∷ lines ("P0280001" ∷ "P08F4240" ∷ "P0900FFF" ∷ "P0A00001" ∷ "Q0E02000" ∷ "Q082" ∷ "Q09" ∷ []) []
 
 -- The same, and a start with master 2 after the dwell.

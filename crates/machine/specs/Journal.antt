@@ -39,7 +39,7 @@ moveEntry s h = record {
 -- The entry that a call answers: a byte answers none.
 abbrev pub answersEntry : Machine → Call → EntryAnswer
 answersEntry m (byte b buffer) = noEntry
-answersEntry m (tick w) = tickStep m w .entry
+answersEntry m (tick w buffer) = tickStep m w buffer .entry
 
 -- The one that the latest call answers.
 unfoldable pub latestEntry : ℕ → List Call → EntryAnswer

@@ -7,6 +7,7 @@ pub mod Starts
 pub mod Commands
 pub mod Replies
 pub mod Outputs
+pub mod Power
 pub mod Steps
 pub mod Calls
 pub mod Roles
@@ -14,5 +15,6 @@ pub mod List
 pub mod Demand
 pub mod Journal
 pub mod Watch
+pub mod Settle
 pub mod Marked
 pub mod Flagged

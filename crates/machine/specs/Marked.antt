@@ -30,7 +30,7 @@ pulses a = some (λ k. not (eqb (natAbs (a .pulse k)) 0))
 -- Tick i answered a: of it and those after it, n in all, the first that answers a pulse; 0 where none does.
 abbrev pub firstFrom : ℕ → ℕ → TickAnswer → ℕ
 firstFrom zero i a = 0
-firstFrom (suc n) i a = cond (pulses a) i (firstFrom n (suc i) (tickStep (a .machine) 0))
+firstFrom (suc n) i a = cond (pulses a) i (firstFrom n (suc i) (tickStep (a .machine) 0 buffer))
 
 -- The travels of the five axes after each tick that answers a pulse, of the tick that answered a and those after it,
 -- n in all.
@@ -39,7 +39,7 @@ noted on row rows = cond on (row ∷ rows) rows
 
 abbrev pub rowsFrom : ℕ → TickAnswer → List (List ℕ)
 rowsFrom zero a = []
-rowsFrom (suc n) a = noted (pulses a) (each (travelOf (a .machine))) (rowsFrom n (tickStep (a .machine) 0))
+rowsFrom (suc n) a = noted (pulses a) (each (travelOf (a .machine))) (rowsFrom n (tickStep (a .machine) 0 buffer))
 
 -- What axis k has in each row.
 abbrev pub column : ℕ → List (List ℕ) → List ℕ
@@ -50,11 +50,11 @@ column k (row ∷ rows) = getD row k 0 ∷ column k rows
 
 -- Of the first n ticks after some lines the first that answers a pulse; 0 where none does.
 unfoldable pub firstPulse : ℕ → List String → ℕ
-firstPulse n ls = firstFrom n 1 (tickStep (state 0 (lines ls [])) 0)
+firstPulse n ls = firstFrom n 1 (tickStep (state 0 (lines ls [])) 0 buffer)
 
 -- The travels of the five axes after each pulse, of the first n ticks after some lines.
 unfoldable pub travels : ℕ → List String → List (List ℕ)
-travels n ls = rowsFrom n (tickStep (state 0 (lines ls [])) 0)
+travels n ls = rowsFrom n (tickStep (state 0 (lines ls [])) 0 buffer)
 
 -- The machine after some lines and n ticks.
 unfoldable pub ticked : ℕ → List String → Machine

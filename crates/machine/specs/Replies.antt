@@ -5,7 +5,7 @@ use mathlib.Core.List.{List, []}
 use lib.IntN.{ℤ}
 use Rattle.digits.specs.declared.Ident.{Ident}
 use Rattle.line.specs.declared.command.Command.{Command}
-use Rattle.reply.specs.Reply.{Told, travelDigits, twenty, replyOf, refusalOf}
+use Rattle.reply.specs.Reply.{Told, travelDigits, twenty, replyOf, refusalOf, inputsOf}
 use Rattle.machine.specs.State.{Machine}
 use Rattle.machine.specs.Stops.{status}
 
@@ -32,6 +32,10 @@ replyTo m c digits ident = replyOf (toldOf m) c digits ident
 
 abbrev pub refusal : Machine → ℕ → Ident → List ℕ
 refusal m n ident = refusalOf (m .switch) n ident
+
+-- The block of the W line that waits, with the inputs w (paper 02, 3/14).
+abbrev pub settledBlock : Machine → ℕ → List ℕ
+settledBlock m w = inputsOf (m .switch) w (m .settle .ident)
 
 -- A line whose second character is 4 never answers.
 abbrev pub unlessSilent : Bool → List ℕ → List ℕ

@@ -23,7 +23,7 @@ use Rattle.machine.specs.Steps.{
   failed,
   began,
   looks,
-  tooLarge,
+  tickTurned,
   tickStep,
 }
 use Rattle.machine.specs.Calls.{Call, byte, tick, after}
@@ -56,7 +56,7 @@ roleBy (accepted c digits silent ident) = roleOf c
 -- The accepted line that a call ends, if any.
 abbrev pub lineOf : Machine → Call → Role
 lineOf m (byte b buffer) = roleBy (outcome m b buffer)
-lineOf m (tick w) = other
+lineOf m (tick w buffer) = other
 
 -- ---- Starts and the dwell, p being the pause before the call: the ticks of the dwell that are left, and the start
 -- that waits for its end
@@ -88,8 +88,8 @@ named (start k) = began k
 -- answers 0.
 abbrev pub takesEffect : Machine → Pause → Call → Tried
 takesEffect m p (byte b buffer) = startBy p (roleBy (outcome m b buffer))
-takesEffect m p (tick w) =
-    cond (eqb (tickStep m w .number) 0) (cond (eqb (p .left) 1) (named (p .waiting)) untried) untried
+takesEffect m p (tick w buffer) =
+    cond (eqb (tickStep m w buffer .number) 0) (cond (eqb (p .left) 1) (named (p .waiting)) untried) untried
 
 -- A start that is stored waits, and a later one replaces it; a plain start that takes effect drops it, and so does
 -- order 9.
@@ -104,7 +104,8 @@ waitingBy p resetOrder = p .waiting
 -- One that is tried is dropped, begun or not.
 abbrev pub waitingAfter : Machine → Pause → Call → Waiting
 waitingAfter m p (byte b buffer) = waitingBy p (roleBy (outcome m b buffer))
-waitingAfter m p (tick w) = cond (tooLarge w) (p .waiting) (cond (eqb (p .left) 1) none (p .waiting))
+waitingAfter m p (tick w buffer) =
+    cond (tickTurned w buffer) (p .waiting) (cond (eqb (p .left) 1) none (p .waiting))
 
 -- Status bit 1.
 abbrev pub moves : Machine → Bool
@@ -112,12 +113,12 @@ moves m = bit (status m) 1
 
 abbrev pub isTick : Call → Bool
 isTick (byte b buffer) = false
-isTick (tick w) = true
+isTick (tick w buffer) = true
 
 -- A tick that is not turned away.
 abbrev pub isTaken : Call → Bool
 isTaken (byte b buffer) = false
-isTaken (tick w) = not (tooLarge w)
+isTaken (tick w buffer) = not (tickTurned w buffer)
 
 -- A tick ends the move that runs or begins in it: after it status bit 1 is 0.
 abbrev pub restsIn : Machine → Pause → Call → Bool
@@ -156,7 +157,7 @@ stopBy m resetOrder = false
 -- .. or where a tick begins one by the tick order.
 abbrev pub stopsIn : Machine → Call → Bool
 stopsIn m (byte b buffer) = stopBy m (roleBy (outcome m b buffer))
-stopsIn m (tick w) = cond (tooLarge w) false (cause (looks m w))
+stopsIn m (tick w buffer) = cond (tickTurned w buffer) false (cause (looks m w))
 
 -- An accepted position reset.
 abbrev pub resetBy : Role → Bool
@@ -187,7 +188,7 @@ minusBy resetOrder k old = old
 -- A pump sends a pulse where a tick answers 1 or -1 for it.
 abbrev pub sent : Machine → Call → ℕ → ℤ
 sent m (byte b buffer) k = pos 0
-sent m (tick w) k = tickStep m w .pulse k
+sent m (tick w buffer) k = tickStep m w buffer .pulse k
 
 -- A value that a start sets anew from its master, and that stays otherwise.
 abbrev pub atStart : {A : Type 0} → Tried → (ℕ → A) → A → A

@@ -5,6 +5,7 @@ use mathlib.Core.Bool.{Bool, cond}
 use mathlib.Core.List.{List}
 use lib.Dec.{eqb}
 use lib.IntN.{ℤ}
+use Rattle.digits.specs.declared.Ident.{Ident}
 
 -- What P 8 to C and Q D, E set: speed V in units of 0.25 Hz, slope a in units of 1.25 kHz/s, dwell in ms.
 pub record Settings : Type 0 where
@@ -43,6 +44,12 @@ pub record Pause : Type 0 where
   pub left : ℕ
   pub waiting : Waiting
 
+-- The latest accepted W line (paper 02, 3/14): the accepted ticks until its block, 0 where none is to come, and its
+-- identification.
+pub record Settle : Type 0 where
+  pub left : ℕ
+  pub ident : Ident
+
 -- Status bits 2, 3, 5 and 6: wrong master; stopped by order, limit or watch; emergency held; stopped by sensor.
 pub record Flags : Type 0 where
   pub wrongMaster : Bool
@@ -65,6 +72,7 @@ pub record Machine : Type 0 where
   pub watch : ℕ
   pub flags : Flags
   pub pause : Pause
+  pub settle : Settle
   -- the characters received since the last 0D
   pub line : List ℕ
 
@@ -106,8 +114,9 @@ moveOf plan master travel speed phase ticks moving stopping = record {
 }
 
 -- A machine by its parts, in the order above.
-abbrev pub machineOf : ℕ → Settings → Plan → Move → (ℕ → ℤ) → ℕ → ℕ → ℕ → Flags → Pause → List ℕ → Machine
-machineOf switch settings next move position inputs outputs watch flags pause line = record {
+abbrev pub machineOf :
+    ℕ → Settings → Plan → Move → (ℕ → ℤ) → ℕ → ℕ → ℕ → Flags → Pause → Settle → List ℕ → Machine
+machineOf switch settings next move position inputs outputs watch flags pause settle line = record {
   switch = switch;
   settings = settings;
   next = next;
@@ -118,6 +127,7 @@ machineOf switch settings next move position inputs outputs watch flags pause li
   watch = watch;
   flags = flags;
   pause = pause;
+  settle = settle;
   line = line;
 }
 
@@ -125,49 +135,54 @@ machineOf switch settings next move position inputs outputs watch flags pause li
 abbrev pub withSettings : Machine → Settings → Machine
 withSettings m x =
     machineOf (m .switch) x (m .next) (m .move) (m .position) (m .inputs) (m .outputs) (m .watch) (m .flags)
-    (m .pause) (m .line)
+    (m .pause) (m .settle) (m .line)
 
 abbrev pub withNext : Machine → Plan → Machine
 withNext m x =
     machineOf (m .switch) (m .settings) x (m .move) (m .position) (m .inputs) (m .outputs) (m .watch) (m .flags)
-    (m .pause) (m .line)
+    (m .pause) (m .settle) (m .line)
 
 abbrev pub withMove : Machine → Move → Machine
 withMove m x =
     machineOf (m .switch) (m .settings) (m .next) x (m .position) (m .inputs) (m .outputs) (m .watch) (m .flags)
-    (m .pause) (m .line)
+    (m .pause) (m .settle) (m .line)
 
 abbrev pub withPosition : Machine → (ℕ → ℤ) → Machine
 withPosition m x =
     machineOf (m .switch) (m .settings) (m .next) (m .move) x (m .inputs) (m .outputs) (m .watch) (m .flags)
-    (m .pause) (m .line)
+    (m .pause) (m .settle) (m .line)
 
 abbrev pub withInputs : Machine → ℕ → Machine
 withInputs m x =
     machineOf (m .switch) (m .settings) (m .next) (m .move) (m .position) x (m .outputs) (m .watch) (m .flags)
-    (m .pause) (m .line)
+    (m .pause) (m .settle) (m .line)
 
 abbrev pub withOutputs : Machine → ℕ → Machine
 withOutputs m x =
     machineOf (m .switch) (m .settings) (m .next) (m .move) (m .position) (m .inputs) x (m .watch) (m .flags)
-    (m .pause) (m .line)
+    (m .pause) (m .settle) (m .line)
 
 abbrev pub withWatch : Machine → ℕ → Machine
 withWatch m x =
     machineOf (m .switch) (m .settings) (m .next) (m .move) (m .position) (m .inputs) (m .outputs) x (m .flags)
-    (m .pause) (m .line)
+    (m .pause) (m .settle) (m .line)
 
 abbrev pub withFlags : Machine → Flags → Machine
 withFlags m x =
     machineOf (m .switch) (m .settings) (m .next) (m .move) (m .position) (m .inputs) (m .outputs) (m .watch) x
-    (m .pause) (m .line)
+    (m .pause) (m .settle) (m .line)
 
 abbrev pub withPause : Machine → Pause → Machine
 withPause m x =
     machineOf (m .switch) (m .settings) (m .next) (m .move) (m .position) (m .inputs) (m .outputs) (m .watch)
-    (m .flags) x (m .line)
+    (m .flags) x (m .settle) (m .line)
+
+abbrev pub withSettle : Machine → Settle → Machine
+withSettle m x =
+    machineOf (m .switch) (m .settings) (m .next) (m .move) (m .position) (m .inputs) (m .outputs) (m .watch)
+    (m .flags) (m .pause) x (m .line)
 
 abbrev pub withLine : Machine → List ℕ → Machine
 withLine m x =
     machineOf (m .switch) (m .settings) (m .next) (m .move) (m .position) (m .inputs) (m .outputs) (m .watch)
-    (m .flags) (m .pause) x
+    (m .flags) (m .pause) (m .settle) x

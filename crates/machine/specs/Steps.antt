@@ -1,4 +1,5 @@
--- One call on the machine: power-on, a received byte with its lent buffer, a tick with its input word.
+-- One call on the machine: power-on, a received byte with its lent buffer, a tick with its input word and its lent
+-- buffer.
 use Prim.Native.Nat.{ℕ, _-_}
 use mathlib.Core.Bool.{Bool, true, false, cond, _||_}
 use mathlib.Core.List.{List, []}
@@ -13,41 +14,15 @@ use Rattle.line.specs.declared.Judged.the-variants.{Accepted, Refused}
 use Rattle.receiver.specs.declared.Heard.{Heard}
 use Rattle.receiver.specs.declared.Heard.the-variants.{Character, Line}
 use Rattle.receiver.specs.Receiver.{receive}
-use Rattle.machine.specs.State.{Plan, Waiting, none, start, Machine, moveOf, withLine, withWatch, withPause}
+use Rattle.machine.specs.State.{Waiting, none, start, Machine, withLine, withWatch, withPause}
+pub use Rattle.machine.specs.Power.{badSwitch, plan₀, powerOn, powerNumber}
 use Rattle.machine.specs.Entries.{EntryAnswer, noEntry}
 use Rattle.machine.specs.Ramp.{Ran, runs}
 use Rattle.machine.specs.Stops.{takes, stops}
 use Rattle.machine.specs.Starts.{startNumber, begun, notes}
-use Rattle.machine.specs.Commands.{number, does, drops, turned}
-use Rattle.machine.specs.Replies.{replyTo, refusal, unlessSilent}
+use Rattle.machine.specs.Commands.{number, does, awaits, drops, turned}
+use Rattle.machine.specs.Replies.{replyTo, refusal, settledBlock, unlessSilent}
 use Rattle.machine.specs.Outputs.{word}
-
--- ---- Power-on: V 10,000, a 16, all else 0; watch 1 (axes) by paper 02, 2/14. 1: a switch over 15 or equal to 12 gives
--- switch 0 with this number.
-
-abbrev pub badSwitch : ℕ → Bool
-badSwitch switch = ltb 15 switch || eqb switch 12
-
-abbrev pub plan₀ : Plan
-plan₀ = record { distance = λ k. 0; minus = λ k. false }
-
-abbrev pub powerOn : ℕ → Machine
-powerOn switch = record {
-  switch = cond (badSwitch switch) 0 switch;
-  settings = record { speed = 10000; slope = 16; dwell = 0; watch = 1; polarity = 0; lowOn = 0; highOn = 0 };
-  next = plan₀;
-  move = moveOf plan₀ 0 (λ k. 0) 0 0 0 false false;
-  position = λ k. pos 0;
-  inputs = 0;
-  outputs = 0;
-  watch = 0;
-  flags = record { wrongMaster = false; stopped = false; emergency = false; sensed = false };
-  pause = record { left = 0; waiting = none };
-  line = [];
-}
-
-abbrev pub powerNumber : ℕ → ℕ
-powerNumber switch = cond (badSwitch switch) 1 0
 
 -- ---- A received byte
 
@@ -71,9 +46,13 @@ abbrev pub outcomeOf : Machine → Heard → Outcome
 outcomeOf m Character = gathered
 outcomeOf m (Line silent ident judged) = decided m silent ident judged
 
--- 2. A reply buffer under 120 bytes: byte not taken.
+-- 2. A reply buffer under 120 bytes.
+abbrev pub isShort : List ℕ → Bool
+isShort buffer = ltb (length buffer) 120
+
+-- With such a buffer the byte is not taken.
 abbrev pub outcome : Machine → ℕ → List ℕ → Outcome
-outcome m b buffer = cond (ltb (length buffer) 120) untaken (outcomeOf m (receive (m .line) b .heard))
+outcome m b buffer = cond (isShort buffer) untaken (outcomeOf m (receive (m .line) b .heard))
 
 -- The machine after a byte, the reply, and the number (0 where nothing is turned away), told of silent lines too.
 pub record ByteAnswer : Type 0 where
@@ -94,7 +73,7 @@ answered m b (refused n silent ident) = record {
   number = n;
 }
 answered m b (accepted c digits silent ident) = record {
-  machine = withWatch (does (heardBy m b) c) 0;
+  machine = awaits (withWatch (does (heardBy m b) c) 0) c silent ident;
   reply = unlessSilent silent (replyTo m c digits ident);
   number = 0;
 }
@@ -107,7 +86,8 @@ abbrev pub bufferAfter : ByteAnswer → List ℕ → List ℕ
 bufferAfter a buffer = over (a .reply) buffer
 
 -- ---- A tick, in its order: inputs, watch count, emergency, outputs; dwell and waiting start; stop causes; ramp and
--- pulses.
+-- pulses. A block has the inputs of this tick; nothing else of the
+-- tick alters it.
 
 -- What comes of a waiting start in a tick.
 pub data Tried : Type 0 where
@@ -151,7 +131,7 @@ abbrev pub looks : Machine → ℕ → Machine
 looks m w = waits (takes m w) (tries (takes m w))
 
 -- The machine after a tick, the pulses, the words of the two halves, the entry of a move that it ends (paper 02, 1/14),
--- and the number of a waiting start that failed, or 0.
+-- the number of a waiting start that failed, or 0, and the block of a W line whose 2,500th tick it is (3/14).
 pub record TickAnswer : Type 0 where
   pub machine : Machine
   pub pulse : ℕ → ℤ
@@ -159,25 +139,45 @@ pub record TickAnswer : Type 0 where
   pub second : ℕ
   pub entry : EntryAnswer
   pub number : ℕ
+  pub reply : List ℕ
 
-abbrev pub ticked : Ran → ℕ → TickAnswer
-ticked r n = record {
+-- The block comes in the tick that counts the last of the 2,500.
+abbrev pub blockIn : Machine → ℕ → List ℕ
+blockIn m w = cond (eqb (m .settle .left) 1) (settledBlock m w) []
+
+abbrev pub ticked : Ran → ℕ → List ℕ → TickAnswer
+ticked r n block = record {
   machine = r .machine;
   pulse = r .pulse;
   first = word (r .machine) (r .pulse) true;
   second = word (r .machine) (r .pulse) false;
   entry = r .entry;
   number = n;
+  reply = block;
 }
 
--- 3. An input word of 16,777,216 or more: nothing altered, pulses and words 0, no entry, this number in the failed
--- start's place.
+-- 2. A reply buffer under 120 bytes (paper 02, 3/14). 3. An input word of 16,777,216 or more. Nothing altered, pulses
+-- and words 0, no entry, no block, this number in the failed start's place.
 abbrev pub tooLarge : ℕ → Bool
 tooLarge w = ltb 16777215 w
 
-abbrev pub refusedTick : Machine → TickAnswer
-refusedTick m = record { machine = m; pulse = λ k. pos 0; first = 0; second = 0; entry = noEntry; number = 3 }
+abbrev pub tickTurned : ℕ → List ℕ → Bool
+tickTurned w buffer = isShort buffer || tooLarge w
 
-abbrev pub tickStep : Machine → ℕ → TickAnswer
-tickStep m w =
-    cond (tooLarge w) (refusedTick m) (ticked (runs (stops (looks m w))) (failure (tries (takes m w))))
+abbrev pub refusedTick : Machine → ℕ → TickAnswer
+refusedTick m n =
+    record { machine = m; pulse = λ k. pos 0; first = 0; second = 0; entry = noEntry; number = n; reply = [] }
+
+-- A tick by whether its buffer is short and its word too large.
+abbrev pub tickBy : Machine → ℕ → Bool → Bool → TickAnswer
+tickBy m w short large =
+    cond short (refusedTick m 2)
+    (cond large (refusedTick m 3)
+    (ticked (runs (stops (looks m w))) (failure (tries (takes m w))) (blockIn m w)))
+
+abbrev pub tickStep : Machine → ℕ → List ℕ → TickAnswer
+tickStep m w buffer = tickBy m w (isShort buffer) (tooLarge w)
+
+-- The lent buffer after the tick: the block at its front, bytes after it keep their values.
+abbrev pub bufferAfterTick : TickAnswer → List ℕ → List ℕ
+bufferAfterTick a buffer = over (a .reply) buffer

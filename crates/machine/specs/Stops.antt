@@ -1,5 +1,5 @@
 -- Paper 01, "Stops (6.6 to 6.10)": inputs, limits, emergency, sensor, watch, and the status.
-use Prim.Native.Nat.{ℕ, _+_, min}
+use Prim.Native.Nat.{ℕ, _+_, _-_, min}
 use mathlib.Core.Bool.{Bool, true, cond, _&&_, _||_}
 use lib.Dec.{ltb, leb}
 use Rattle.laws.specs.Bits.{bit, weight}
@@ -16,6 +16,7 @@ use Rattle.machine.specs.State.{
   withInputs,
   withOutputs,
   withWatch,
+  withSettle,
 }
 
 -- An axis of a plan is blocked by the inputs under the present settings.
@@ -39,6 +40,10 @@ watchFull m i = leb watchMost (m .watch) && bit (m .settings .watch) i
 
 -- ---- The tick order, up to the dwell.
 
+-- One tick less until the block of a W line (paper 02, 3/14). Where it stands in the order alters nothing.
+abbrev pub countsDown : Machine → Machine
+countsDown m = withSettle m (record { left = m .settle .left - 1; ident = m .settle .ident })
+
 -- Raise the watch count by 1 up to the full one.
 abbrev pub raisesWatch : Machine → Machine
 raisesWatch m = withWatch m (min watchMost (m .watch + 1))
@@ -51,9 +56,9 @@ holds m = withFlags m (mark (m .flags) 5 (m .flags .emergency || emergencyActive
 abbrev pub clears : Machine → Machine
 clears m = withOutputs m (cond (watchFull m 1) 0 (m .outputs))
 
--- Take inputs; watch count; emergency; general outputs.
+-- Take inputs; one tick less until a block; watch count; emergency; general outputs.
 abbrev pub takes : Machine → ℕ → Machine
-takes m word = clears (holds (raisesWatch (withInputs m word)))
+takes m word = clears (holds (raisesWatch (countsDown (withInputs m word))))
 
 -- ---- Begin a stop of a running move.
 

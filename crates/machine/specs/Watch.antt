@@ -10,7 +10,7 @@ use Rattle.line.specs.declared.command.Command.{Command}
 use Rattle.line.specs.declared.command.Command.the-variants as C
 use Rattle.machine.specs.State.{Machine}
 use Rattle.machine.specs.Stops.{blocked, sensorActive, status}
-use Rattle.machine.specs.Steps.{Outcome, untaken, gathered, refused, accepted, outcome, looks, tooLarge}
+use Rattle.machine.specs.Steps.{Outcome, untaken, gathered, refused, accepted, outcome, looks, tickTurned}
 use Rattle.machine.specs.Calls.{Call, byte, tick, state}
 use Rattle.machine.specs.Roles.{begins, stopsIn}
 use Rattle.machine.specs.List.{effect, stopBegun, goesOn}
@@ -44,11 +44,11 @@ zeroes (accepted c digits silent ident) = true
 -- none.
 abbrev pub watchAfter : Machine → Call → ℕ → ℕ
 watchAfter m (byte b buffer) old = watchBy (outcome m b buffer) old
-watchAfter m (tick w) old = old
+watchAfter m (tick w buffer) old = old
 
 abbrev pub unheardAfter : Machine → Call → ℕ → ℕ
 unheardAfter m (byte b buffer) old = cond (zeroes (outcome m b buffer)) 0 old
-unheardAfter m (tick w) old = cond (tooLarge w) old (old + 1)
+unheardAfter m (tick w buffer) old = cond (tickTurned w buffer) old (old + 1)
 
 -- ---- A list of calls
 
@@ -77,11 +77,14 @@ pub record Watched (s : ℕ) (h : List Call) : Type 0 where
   pub count : state s h .watch ≡ min 1000000 (ticksUnheard s h)
   -- a tick w that is not turned away begins a stop of the move that runs or begins in it exactly if the watch stops it
   -- or another cause is there
-  pub stopBegins : (w : ℕ) → tooLarge w ≡ false → begins (effect s h (tick w)) || goesOn s h ≡ true
-      → stopsIn (state s h) (tick w) ≡ watchStops s (tick w ∷ h) || otherCause (looks (state s h) w)
+  pub stopBegins : (w : ℕ) (buffer : List ℕ) → tickTurned w buffer ≡ false
+      → begins (effect s h (tick w buffer)) || goesOn s h ≡ true
+      → stopsIn (state s h) (tick w buffer)
+      ≡ watchStops s (tick w buffer ∷ h) || otherCause (looks (state s h) w)
   -- status bit 3 tells it, also where that tick ends the move
-  pub told : (w : ℕ) → tooLarge w ≡ false → begins (effect s h (tick w)) || goesOn s h ≡ true
-      → watchStops s (tick w ∷ h) ≡ true → bit (status (state s (tick w ∷ h))) 3 ≡ true
+  pub told : (w : ℕ) (buffer : List ℕ) → tickTurned w buffer ≡ false
+      → begins (effect s h (tick w buffer)) || goesOn s h ≡ true → watchStops s (tick w buffer ∷ h) ≡ true
+      → bit (status (state s (tick w buffer ∷ h))) 3 ≡ true
   -- so no move runs on past it in which no stop has begun
   pub stopped : goesOn s h ≡ true → watchStops s h ≡ true → stopBegun s h ≡ true
   -- and a move that runs is being stopped, as the ramp has it, exactly if a stop has begun in it

@@ -2,12 +2,13 @@
 -- Assumes nothing.
 use Prim.Native.Nat.{ℕ, _+_, _-_, _<_}
 use native.Mathlib.Omega.{arith}
-use mathlib.Core.Bool.{Bool, true, false, not, _&&_, _||_, false≢true}
+use mathlib.Core.Bool.{not, _&&_}
 use mathlib.Core.List.{List, [], _∷_}
 use mathlib.Core.Path.{_≡_, refl, sym, subst, _∙_}
 use borrow.Author.Tests.{ltb-false, eqb-false}
 use lib.Dec.{ltb, leb, eqb}
 use Rattle.laws.proofs.Pick.{by-bool}
+use Rattle.laws.proofs.Tests.{neither}
 use Rattle.digits.specs.Digits.{sixDigits}
 use Rattle.machine.specs.State.{Machine}
 use Rattle.machine.specs.Shares.{whole, gone}
@@ -32,6 +33,7 @@ use Rattle.machine.specs.Steps.{
   waits,
   looks,
   TickAnswer,
+  isShort,
   tooLarge,
   tickStep,
 }
@@ -60,14 +62,10 @@ kept-same m a k s = record {
 
 -- ---- power-on
 
-either-false : (a b : Bool) → (a || b) ≡ false → (a ≡ false) × (b ≡ false)
-either-false true b e = absurd (false≢true (sym e))
-either-false false b e = (refl, e)
-
-kept-power : (s : ℕ) → Kept (powerOn s)
+pub kept-power : (s : ℕ) → Kept (powerOn s)
 kept-power s = record {
   switch = by-bool SwitchFits (badSwitch s) 0 s (λ _. record { low = omega arith; other = λ e. omega arith })
-      (λ q. let t = either-false (ltb 15 s) (eqb s 12) q in
+      (λ q. let t = neither (ltb 15 s) (eqb s 12) q in
       let l = ltb-false 15 s (t .0) in
       record { low = omega arith; other = eqb-false s 12 (t .1) });
   inputs = omega arith;
@@ -126,19 +124,20 @@ same-runs m =
 kept-takes : (m : Machine) (w : ℕ) → Kept m → w < sixDigits → Kept (takes m w)
 kept-takes m w k h = record { switch = k .switch; inputs = h }
 
-kept-tick : (m : Machine) (w : ℕ) → Kept m → Kept (tickStep m w .machine)
-kept-tick m w k =
-    by-bool (λ (a : TickAnswer). Kept (a .machine)) (tooLarge w) _ _ (λ _. k)
+kept-tick : (m : Machine) (w : ℕ) (d : List ℕ) → Kept m → Kept (tickStep m w d .machine)
+kept-tick m w d k =
+    by-bool (λ (a : TickAnswer). Kept (a .machine)) (isShort d) _ _ (λ _. k)
+    (λ _. by-bool (λ (a : TickAnswer). Kept (a .machine)) (tooLarge w) _ _ (λ _. k)
     (λ q. let h = ltb-false 16777215 w q in
     let s = same-waits (takes m w) (tries (takes m w)) in
     kept-same (takes m w) (runs (stops (looks m w)) .machine) (kept-takes m w k (omega arith))
     (same-next (takes m w) (stops (looks m w)) (runs (stops (looks m w)) .machine)
     (same-next (takes m w) (looks m w) (stops (looks m w)) s (same-stops (looks m w)))
-    (same-runs (stops (looks m w)))))
+    (same-runs (stops (looks m w))))))
 
 kept-after : (m : Machine) (x : Call) → Kept m → Kept (after m x)
 kept-after m (byte b buffer) k = kept-same m _ k (same-answered m b (outcome m b buffer))
-kept-after m (tick w) k = kept-tick m w k
+kept-after m (tick w d) k = kept-tick m w d k
 
 -- Every machine that calls make from power-on.
 pub kept : (s : ℕ) (h : List Call) → Kept (state s h)

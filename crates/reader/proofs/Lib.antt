@@ -6,6 +6,7 @@ pub mod LineLaws
 pub mod KeptLaws
 pub mod NumberLaws
 pub mod ReplyLaws
+pub mod TickReadBack
 pub mod ReadBack
 pub mod FieldLaws
 pub mod OnlyBlocks

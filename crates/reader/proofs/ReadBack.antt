@@ -27,9 +27,11 @@ use Rattle.machine.specs.Steps.{
   accepted,
   decided,
   outcomeOf,
+  outcome,
   answered,
+  byteStep,
 }
-use Rattle.machine.specs.Calls.{state}
+use Rattle.machine.specs.Calls.{Call, state}
 use Rattle.machine.proofs.Fits.{Fits}
 use Rattle.machine.proofs.FitLaws.{fits}
 use Rattle.host.specs.Writer.{identFits}
@@ -40,6 +42,7 @@ use Rattle.reader.proofs.LineLaws.{Tells, line-tells}
 use Rattle.reader.proofs.KeptLaws.{Kept, kept}
 use Rattle.reader.proofs.NumberLaws.{number-late}
 use Rattle.reader.proofs.ReplyLaws.{none-read, reply-reads, refusal-reads}
+use Rattle.reader.proofs.TickReadBack.{tick-read}
 
 unless-silent : (silent : Bool) {bytes : List ℕ} {figures : List Figures} → ReadsAs bytes figures
     → ReadsAs (unlessSilent silent bytes) (cond silent [] figures)
@@ -74,8 +77,12 @@ heard-said m b f k =
     (λ _. none-read)
 
 -- Any controller that calls made from power-on, any byte and any buffer: the reply is read back whole.
-pub replies-read : RepliesRead
-replies-read s h b buffer =
+byte-read : (s : ℕ) (h : List Call) (b : ℕ) (buffer : List ℕ)
+    → ReadsAs (byteStep (state s h) b buffer .reply) (saidOf (state s h) (outcome (state s h) b buffer))
+byte-read s h b buffer =
     let m = state s h in
     by-bool (Said m b) (ltb (length buffer) 120) untaken (outcomeOf m (receive (m .line) b .heard))
     (λ _. none-read) (λ _. heard-said m b (fits s h) (kept s h))
+
+pub replies-read : RepliesRead
+replies-read = record { bytes = byte-read; ticks = tick-read }

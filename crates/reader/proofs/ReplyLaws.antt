@@ -159,7 +159,7 @@ module _ (m : Machine) (f : Fits m) (k : Kept m) (ident : Ident) (named : identF
   reading-reads (R.Position j) h = one-read (place-back j (axis j h))
   reading-reads R.Status h = one-read status-back
   reading-reads R.Everything h = all-read
-  reading-reads R.Inputs h = one-read inputs-back
+  reading-reads R.Inputs h = none-read
 
   -- The reply to an accepted command.
   pub reply-reads : (c : Command) (n : ℕ) → CommandFits c → n < sixDigits → Echoed c n
@@ -173,7 +173,7 @@ module _ (m : Machine) (f : Fits m) (k : Kept m) (ident : Ident) (named : identF
       when false q = rw q (echo-back n low (e (ltb-false j 13 q)))
   reply-reads (C.Start j waits) n h low e = echo-back n low e
   reply-reads (C.Order j) n h low e = echo-back n low e
-  reply-reads (C.Outputs v) n h low e = one-read inputs-back
+  reply-reads (C.Outputs v) n h low e = none-read
   reply-reads (C.Read r) n h low e = reading-reads r h
 
 -- The reply to a turned-away line.

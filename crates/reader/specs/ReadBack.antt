@@ -15,8 +15,9 @@ use Rattle.reply.specs.Reply.{refusalIdent}
 use Rattle.machine.specs.State.{Machine}
 use Rattle.machine.specs.Stops as Stops
 use Rattle.machine.specs.Replies.{travelOf, positionOf}
-use Rattle.machine.specs.Steps.{Outcome, untaken, gathered, refused, accepted, outcome, byteStep}
+use Rattle.machine.specs.Steps.{Outcome, untaken, gathered, refused, accepted, outcome, byteStep, tickStep}
 use Rattle.machine.specs.Calls.{Call, state}
+use Rattle.machine.specs.Settle.{Latest, noLine, wLine, lastW, switchOf, isDue}
 use Rattle.reader.specs.Reader.{Figures, verdict, travelled, status, echo, placed, inputs, readOf}
 
 -- An axis's travel with the latest move's direction, its position; the status; the last tick's inputs.
@@ -42,17 +43,17 @@ saidFor m R.Everything ident =
     ∷ statusIn m ident
     ∷ positionIn m ident 0 ∷ positionIn m ident 1 ∷ positionIn m ident 2 ∷ positionIn m ident 3 ∷ positionIn m ident 4
     ∷ inputsIn m ident ∷ []
-saidFor m R.Inputs ident = inputsIn m ident ∷ []
+saidFor m R.Inputs ident = []
 
 -- What the reply to an accepted command with these six digits says. P: 0. Q: a reading, or the digits. q: a position,
--- or everything. W: the inputs. Settings are P's up to C, those of the inputs Q's.
+-- or everything. W: nothing, its block comes from a tick. Settings are P's up to C, those of the inputs Q's.
 abbrev pub saidTo : Machine → Command → ℕ → Ident → List Figures
 saidTo m (C.Distance k minus d) digits ident = verdict (m .switch) 0 ident ∷ []
 saidTo m (C.Set code v) digits ident =
     cond (ltb code 13) (verdict (m .switch) 0 ident ∷ []) (echo (m .switch) digits ident ∷ [])
 saidTo m (C.Start k waits) digits ident = echo (m .switch) digits ident ∷ []
 saidTo m (C.Order code) digits ident = echo (m .switch) digits ident ∷ []
-saidTo m (C.Outputs v) digits ident = inputsIn m ident ∷ []
+saidTo m (C.Outputs v) digits ident = []
 saidTo m (C.Read r) digits ident = saidFor m r ident
 
 -- What the reply to a byte says: nothing where there is no reply; a line turned away, its number, with the
@@ -62,6 +63,16 @@ saidOf m untaken = []
 saidOf m gathered = []
 saidOf m (refused n silent ident) = cond silent [] (verdict (m .switch) n (refusalIdent n ident) ∷ [])
 saidOf m (accepted c digits silent ident) = cond silent [] (saidTo m c digits ident)
+
+-- What the block of a W line says in the tick with the inputs w, off the list of calls (paper 02, 3/14): the switch of
+-- power-on, these inputs, the identification of the latest accepted W line. A silent one gives none.
+abbrev pub saidLater : ℕ → Latest → ℕ → List Figures
+saidLater s noLine w = []
+saidLater s (wLine silent ident) w = cond silent [] (inputs (switchOf s) w ident ∷ [])
+
+-- What a tick after the list says: it is not turned away, and the 2,500th since that line.
+abbrev pub saidBy : ℕ → List Call → ℕ → List ℕ → List Figures
+saidBy s h w buffer = cond (isDue s h w buffer) (saidLater s (lastW s h) w) []
 
 -- Rows of bytes, one behind the other.
 abbrev pub joined : List (List ℕ) → List ℕ
@@ -74,8 +85,10 @@ pub record ReadsAs (bytes : List ℕ) (figures : List Figures) : Type 0 where
   pub whole : joined blocks ≡ bytes
   pub read : map readOf blocks ≡ figures
 
--- Any controller that calls made from power-on, any byte and any buffer: the reply is read back whole.
-abbrev pub RepliesRead : Type 0
-RepliesRead =
-    (s : ℕ) (h : List Call) (b : ℕ) (buffer : List ℕ)
-    → ReadsAs (byteStep (state s h) b buffer .reply) (saidOf (state s h) (outcome (state s h) b buffer))
+-- Any controller that calls made from power-on, any byte or tick and any buffer: the reply, or the block, is read back
+-- whole.
+pub record RepliesRead : Type 0 where
+  pub bytes : (s : ℕ) (h : List Call) (b : ℕ) (buffer : List ℕ)
+      → ReadsAs (byteStep (state s h) b buffer .reply) (saidOf (state s h) (outcome (state s h) b buffer))
+  pub ticks : (s : ℕ) (h : List Call) (w : ℕ) (buffer : List ℕ)
+      → ReadsAs (tickStep (state s h) w buffer .reply) (saidBy s h w buffer)

@@ -35,7 +35,7 @@ pub data Figures : Type 0 where
   echo : ℕ → ℕ → Ident → Figures
   -- s 0-4: the axis, the position
   placed : ℕ → ℕ → ℤ → Ident → Figures
-  -- R: the last tick's inputs
+  -- R: the inputs of the last tick (q 8), or of a W line's 2,500th
   inputs : ℕ → ℕ → Ident → Figures
 
 -- The paper's number and values for each case of the reader's answer.

@@ -40,7 +40,7 @@ pub enum Reading {
         position: Position,
         ident: Ident,
     },
-    // R: the last tick's inputs.
+    // R: the inputs of the last tick (q 8), or of a W line's 2,500th.
     Inputs {
         switch: u8,
         inputs: u32,

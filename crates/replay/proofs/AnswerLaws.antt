@@ -13,13 +13,13 @@ use Rattle.reply.specs.declared.readings.Position.{Position}
 use Rattle.machine.specs.State.{Machine}
 use Rattle.machine.specs.Entries.{EntryAnswer, noEntry, entry}
 use Rattle.machine.specs.Stops.{status}
-use Rattle.machine.specs.Steps.{byteStep, tickStep, bufferAfter}
+use Rattle.machine.specs.Steps.{byteStep, tickStep, bufferAfter, bufferAfterTick}
 use Rattle.machine.specs.Calls.{Call, run, state}
 use Rattle.controller.specs.declared.state.Controller.{Controller}
 use Rattle.controller.specs.declared.state.PowerOn.{PowerOn}
 use Rattle.controller.specs.declared.state.ByteAnswer.{ByteAnswer}
 use Rattle.controller.specs.declared.state.TickAnswer.{TickAnswer}
-use Rattle.controller.proofs.FrontLaws.{reply-room}
+use Rattle.controller.proofs.FrontLaws.{reply-room, block-in}
 use Rattle.controller.specs.Held.{held, heldPower, heldByte, isEnd, heldEntry, heldTick, heldTravel, heldPosition}
 use Rattle.replay.specs.declared.play.Played.{Played}
 use Rattle.replay.specs.Digest.{mixed, tickCode, atAxis, mixedBytes, mixedEntry, mixedAxes, travelAt, placeAt}
@@ -38,21 +38,31 @@ entry-told : (x : EntryAnswer) (g : ℕ) → cond (isEnd x) (mixedEntry g (heldE
 entry-told noEntry g = refl
 entry-told (entry e) g = refl
 
-pub tick-is : (s : ℕ) (h : List Call) (w g : ℕ) (a : TickAnswer) (n o r : ℕ) → a ≡ heldTick (tickStep (state s h) w)
-    → o ≡ cond (a .ended) (mixedEntry g (a .entry)) g → n ≡ tickCode (atAxis (a .pulses)) (a .number)
-    → r ≡ mixed o (a .first) (a .second) n
-    → _≡_ {A = Played} (record { controller = a .controller; digest = r }) (heldSeen s (ticked s w (seen h g)))
+pub tick-is : (s : ℕ) (h : List Call) (w g : ℕ) (d x : List ℕ) (a : TickAnswer) (b n o r : ℕ)
+    → a ≡ heldTick (tickStep (state s h) w d) → x ≡ bufferAfterTick (tickStep (state s h) w d) d
+    → b ≡ mixedBytes g (frontOf x (a .length)) → o ≡ cond (a .ended) (mixedEntry b (a .entry)) b
+    → n ≡ tickCode (atAxis (a .pulses)) (a .number) → r ≡ mixed o (a .first) (a .second) n
+    → _≡_ {A = Played} (record { controller = a .controller; digest = r }) (heldSeen s (ticked s w d (seen h g)))
 unfolding tickCode run
-tick-is s h w g a n o r e t p q = λ i. record {
+tick-is s h w g d x a b n o r e l f t p q = λ i. record {
   controller = e i .controller;
   digest = (q ∙ (λ j. mixed (entered j) (e j .first) (e j .second) (code j))) i;
 }
   where
-    entered : o ≡ entryTold (tickStep (state s h) w .entry) g
-    entered =
-        t ∙ ((λ j. cond (e j .ended) (mixedEntry g (e j .entry)) g) ∙ entry-told (tickStep (state s h) w .entry) g)
+    block : List ℕ
+    block = tickStep (state s h) w d .reply
 
-    code : n ≡ tickCode (tickStep (state s h) w .pulse) (tickStep (state s h) w .number)
+    shown : b ≡ mixedBytes g block
+    shown =
+        f ∙ ap (mixedBytes g) (block-in x (a .length) _ refl (state s h) w d l (ap (λ (y : TickAnswer). y .length) e))
+
+    entered : o ≡ entryTold (tickStep (state s h) w d .entry) (mixedBytes g block)
+    entered =
+        t
+        ∙ ((λ j. cond (e j .ended) (mixedEntry (shown j) (e j .entry)) (shown j))
+        ∙ entry-told (tickStep (state s h) w d .entry) (mixedBytes g block))
+
+    code : n ≡ tickCode (tickStep (state s h) w d .pulse) (tickStep (state s h) w d .number)
     code = p ∙ ap (λ (x : TickAnswer). tickCode (atAxis (x .pulses)) (x .number)) e
 
 -- The reply has room in the buffer.

@@ -2,12 +2,18 @@
 -- after the calls so far. Assumes nothing.
 use Prim.Native.Nat.{ℕ, _+_, _*_, _%_}
 use native.Mathlib.Numerals.{add-one}
-use mathlib.Core.List.{List}
-use mathlib.Core.Path.{_≡_, sym, ap, _∙_}
-use borrow.Author.Tests.{eq-eqb, ne-eqb}
-use lib.Dec.{ltb}
-use lib.ListN.{getD, replicate}
-use Rattle.machine.specs.Calls.{state}
+use mathlib.Core.Bool.{Bool, true, false, cond, _||_}
+use mathlib.Core.List.{List, []}
+use mathlib.Core.Path.{_≡_, refl, sym, ap, _∙_}
+use borrow.Author.Tests.{eq-eqb, ne-eqb, eqb-true}
+use lib.Dec.{ltb, leb, eqb}
+use lib.ListN.{length, getD, replicate}
+use Rattle.laws.proofs.Pick.{by-bool}
+use Rattle.laws.proofs.Tests.{neither, either}
+use Rattle.block.specs.Block.{frontOf}
+use Rattle.machine.specs.Steps.{TickAnswer, bufferAfterTick}
+use Rattle.machine.specs.Calls.{Call, run, state}
+use Rattle.machine.proofs.LentLaws.{same-lent}
 use Rattle.controller.specs.Held.{held}
 use Rattle.controller.specs.Reach.{Reachable}
 use Rattle.replay.specs.declared.play.Played.{Played}
@@ -15,8 +21,12 @@ use Rattle.replay.specs.Replay.{
   Seen,
   seen,
   begun,
+  tickTold,
   ticked,
+  tickLent,
   ticks,
+  lentAfter,
+  lentTicks,
   sent,
   read,
   called,
@@ -24,23 +34,31 @@ use Rattle.replay.specs.Replay.{
   seenAfter,
   heldSeen,
   Plays,
+  Lends,
 }
+use Rattle.replay.specs.Digest.{mixedBytes}
 
 -- ---- A call by its kind
 
 module _ (s kind value count : ℕ) (x : Seen) where
-  pub call-ticks : kind ≡ 0 → ticks s count value x ≡ called s kind value count x
+  -- Of ticks how many they are, how many zeros are lent, and whether these count.
+  pub call-ticks : (n room : ℕ) → eqb kind 0 || eqb kind 3 ≡ true → n ≡ cond (eqb kind 3) 1 count
+      → room ≡ cond (eqb kind 3) (count % 256) 120
+      → lentTicks s n value (replicate room 0) (eqb kind 3) x ≡ called s kind value count x
   unfolding called
-  call-ticks e = rw (eq-eqb kind 0 e)
+  call-ticks n room e p q =
+      (λ i. lentTicks s (p i) value (replicate (q i) 0) (eqb kind 3) x)
+      ∙ either (eqb kind 0) (eqb kind 3) e
+      (λ f. rw (eqb-true kind 0 f)) (λ f g. rw (f, g))
 
-  pub call-byte : (kind ≡ 0 → ⊥) → kind ≡ 1
+  pub call-byte : eqb kind 0 || eqb kind 3 ≡ false → kind ≡ 1
       → sent s (value % 256) (ltb count 256) (replicate (count % 256) 0) x ≡ called s kind value count x
   unfolding called
-  call-byte n e = rw (ne-eqb kind 0 n, eq-eqb kind 1 e)
+  call-byte n e = let k = neither (eqb kind 0) (eqb kind 3) n in rw (k .0, k .1, eq-eqb kind 1 e)
 
-  pub call-read : (kind ≡ 0 → ⊥) → (kind ≡ 1 → ⊥) → read s x ≡ called s kind value count x
+  pub call-read : eqb kind 0 || eqb kind 3 ≡ false → (kind ≡ 1 → ⊥) → read s x ≡ called s kind value count x
   unfolding called
-  call-read n e = rw (ne-eqb kind 0 n, ne-eqb kind 1 e)
+  call-read n e = let k = neither (eqb kind 0) (eqb kind 3) n in rw (k .0, k .1, ne-eqb kind 1 e)
 
 -- ---- What was played, and a call more
 
@@ -56,23 +74,68 @@ module _ (s : ℕ) (x : Seen) (p : Played) (e : p ≡ heldSeen s x) where
 
 -- ---- So many ticks
 
-module _ (w : ℕ) (c : Played) where
+module _ (w : ℕ) (d : List ℕ) (c : Played) where
   abbrev pub Ticking : ℕ → Played → Type 0
-  Ticking n p = Plays c p (λ s. ticks s n w)
+  Ticking n p = Plays c p (λ s. ticks s n w d)
+
+  abbrev pub Lent : ℕ → List ℕ → Type 0
+  Lent n x = Lends c x (λ s. lentAfter s n w d)
 
   pub tick-none : Ticking 0 c
   unfolding ticks
   tick-none s h e = λ i. record { controller = sym e i; digest = c .digest }
 
+  pub lent-none : Lent 0 d
+  unfolding lentAfter
+  lent-none s h e = refl
+
   pub tick-reach : (n : ℕ) (p : Played) → Reachable (c .controller) → Ticking n p → Reachable (p .controller)
   tick-reach n p r t =
-      reach (r .switch) (ticks (r .switch) n w (seen (r .history) (c .digest))) p
+      reach (r .switch) (ticks (r .switch) n w d (seen (r .history) (c .digest))) p
       (t (r .switch) (r .history) (r .made))
 
-  pub tick-next : (n : ℕ) (p next : Played) → Ticking n p → Plays p next (λ s. ticked s w) → Ticking (n + 1) next
-  unfolding ticks
-  tick-next n p next t g = λ s h e. rw (add-one n)
-      (stepped s (ticks s n w (seen h (c .digest))) p (t s h e) (λ s. ticked s w) next g)
+  -- One tick more, which finds x in the buffer, as long as d.
+  pub tick-next : (n : ℕ) (p next : Played) (x : List ℕ) → length x ≡ length d → Ticking n p
+      → Plays p next (λ s. ticked s w x) → Ticking (n + 1) next
+  unfolding ticks run
+  tick-next n p next x l t g = λ s h e.
+      let y = ticks s n w d (seen h (c .digest)) in
+      rw (add-one n)
+      (stepped s y p (t s h e) (λ s. ticked s w x) next g
+      ∙ ap (λ (a : TickAnswer). record { controller = held (a .machine); digest = tickTold a (y .digest) })
+      (same-lent (state s (y .calls)) w x d l))
+
+  pub lent-next : (n : ℕ) (p : Played) (x z : List ℕ) → length x ≡ length d → Ticking n p → Lent n x
+      → Lends p z (λ s. tickLent s w x x) → Lent (n + 1) z
+  unfolding lentAfter
+  lent-next n p x z l t b g = λ s h e.
+      let y = ticks s n w d (seen h (c .digest)) in
+      rw (add-one n)
+      (g s (y .calls) (made s y p (t s h e))
+      ∙ λ i. bufferAfterTick (same-lent (state s (y .calls)) w x d l i) (b s h e i))
+
+-- No byte of a buffer.
+pub front-none : (d : List ℕ) → frontOf d 0 ≡ []
+front-none d = by-bool (λ (x : List ℕ). x ≡ []) (leb 0 (length d)) _ _ (λ e. refl) (λ e. refl)
+
+pub block-none : (g n : ℕ) (d : List ℕ) → n ≡ 0 → g ≡ mixedBytes g (frontOf d n)
+unfolding mixedBytes
+block-none g n d e = rw e (sym (ap (mixedBytes g) (front-none d)))
+
+-- The buffer after them counts, or not.
+pub lent-is : (s w n : ℕ) (h : List Call) (d : List ℕ) (g : ℕ) (ran : Played) (x y : List ℕ) (whole : Bool) (r : ℕ)
+    → ran ≡ heldSeen s (ticks s n w d (seen h g)) → x ≡ lentAfter s n w d (seen h g)
+    → y ≡ cond whole x (frontOf x 0) → r ≡ mixedBytes (ran .digest) y
+    → _≡_ {A = Played} (record { controller = ran .controller; digest = r })
+    (heldSeen s (lentTicks s n w d whole (seen h g)))
+lent-is s w n h d g ran x y whole r e l p q = λ i. record {
+  controller = e i .controller;
+  digest = (q ∙ (λ j. mixedBytes (e j .digest) ((p ∙ when whole) j))) i;
+}
+  where
+    when : (t : Bool) → cond t x (frontOf x 0) ≡ cond t (lentAfter s n w d (seen h g)) []
+    when true = l
+    when false = front-none x
 
 -- ---- The list
 

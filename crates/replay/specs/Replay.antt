@@ -1,7 +1,7 @@
 -- A list of calls, nine bytes each, played to the machine after power-on, and the digest of all its answers. The
 -- machine that a call gets is `state` (machine/specs/Calls.antt) of the switch and the calls before it.
 use Prim.Native.Nat.{ℕ, zero, suc, _+_, _*_, _/_, _%_}
-use mathlib.Core.Bool.{Bool, cond}
+use mathlib.Core.Bool.{Bool, true, false, cond}
 use mathlib.Core.List.{List, [], _∷_}
 use mathlib.Core.Path.{_≡_}
 use lib.Dec.{eqb, ltb}
@@ -12,7 +12,7 @@ use Rattle.machine.specs.Entries.{EntryAnswer, noEntry, entry}
 use Rattle.machine.specs.Replies.{travelOf, positionOf}
 use Rattle.machine.specs.Stops.{status}
 use Rattle.machine.specs.Steps as steps
-use Rattle.machine.specs.Steps.{powerNumber, byteStep, tickStep, bufferAfter}
+use Rattle.machine.specs.Steps.{powerNumber, byteStep, tickStep, bufferAfter, bufferAfterTick}
 use Rattle.machine.specs.Calls.{Call, byte, tick, state}
 use Rattle.controller.specs.Held.{held}
 use Rattle.replay.specs.declared.play.Played.{Played}
@@ -35,18 +35,35 @@ abbrev pub entryTold : EntryAnswer → ℕ → ℕ
 entryTold noEntry digest = digest
 entryTold (entry e) digest = mixedEntry digest e
 
--- A tick: the entry that it answers; then the words of its halves, and its pulses and number.
+-- A tick: the block and the entry that it answers; then the words of its halves, and its pulses and number.
 abbrev pub tickTold : steps.TickAnswer → ℕ → ℕ
-tickTold a digest = mixed (entryTold (a .entry) digest) (a .first) (a .second) (tickCode (a .pulse) (a .number))
+tickTold a digest =
+    mixed (entryTold (a .entry) (mixedBytes digest (a .reply))) (a .first) (a .second) (tickCode (a .pulse) (a .number))
 
-abbrev pub ticked : ℕ → ℕ → Seen → Seen
-ticked switch word x =
-    seen (tick word ∷ x .calls) (tickTold (tickStep (state switch (x .calls)) word) (x .digest))
+-- A tick with d in the lent buffer.
+abbrev pub ticked : ℕ → ℕ → List ℕ → Seen → Seen
+ticked switch word d x =
+    seen (tick word d ∷ x .calls) (tickTold (tickStep (state switch (x .calls)) word d) (x .digest))
 
--- So many ticks with one input word.
-unfoldable pub ticks : ℕ → ℕ → ℕ → Seen → Seen
-ticks switch zero word x = x
-ticks switch (suc n) word x = ticked switch word (ticks switch n word x)
+-- So many ticks with one input word and a buffer as long as d. What it holds plays no part in the answers.
+unfoldable pub ticks : ℕ → ℕ → ℕ → List ℕ → Seen → Seen
+ticks switch zero word d x = x
+ticks switch (suc n) word d x = ticked switch word d (ticks switch n word d x)
+
+-- The buffer after a tick that found c in it, and after so many ticks, the first of which found d.
+abbrev pub tickLent : ℕ → ℕ → List ℕ → List ℕ → Seen → List ℕ
+tickLent switch word d c x = bufferAfterTick (tickStep (state switch (x .calls)) word d) c
+
+unfoldable pub lentAfter : ℕ → ℕ → ℕ → List ℕ → Seen → List ℕ
+lentAfter switch zero word d x = d
+lentAfter switch (suc n) word d x =
+    tickLent switch word d (lentAfter switch n word d x) (ticks switch n word d x)
+
+-- So many ticks that are lent one buffer, all of which counts after the last of them, or nothing of it.
+abbrev pub lentTicks : ℕ → ℕ → ℕ → List ℕ → Bool → Seen → Seen
+lentTicks switch n word d whole x =
+    seen (ticks switch n word d x .calls)
+    (mixedBytes (ticks switch n word d x .digest) (cond whole (lentAfter switch n word d x) []))
 
 -- A received byte, with d in the lent buffer: the length of the reply and the number, then each byte of the buffer as
 -- the call left it, or of the reply alone.
@@ -67,13 +84,15 @@ readOf m digest =
 abbrev pub read : ℕ → Seen → Seen
 read switch x = seen (x .calls) (readOf (state switch (x .calls)) (x .digest))
 
--- A call by its kind: 0, `count` ticks with the input word `value`; 1, the received byte `value` modulo 256 with
+-- A call by its kind: 0, `count` ticks with the input word `value` and 120 zeros lent, of which the blocks alone count;
+-- 3, one such tick with `count` modulo 256 zeros lent, all of which count; 1, the received byte `value` modulo 256 with
 -- `count` modulo 256 zeros lent, of which the reply alone counts from a `count` of 256 on; any other, the readings.
 unfoldable pub called : ℕ → ℕ → ℕ → ℕ → Seen → Seen
 called switch kind value count x =
-    cond (eqb kind 0) (ticks switch count value x)
+    cond (eqb kind 0) (lentTicks switch count value (replicate 120 0) false x)
+    (cond (eqb kind 3) (lentTicks switch 1 value (replicate (count % 256) 0) true x)
     (cond (eqb kind 1) (sent switch (value % 256) (ltb count 256) (replicate (count % 256) 0) x)
-    (read switch x))
+    (read switch x)))
 
 -- The number of the four bytes from i on, the low one first.
 unfoldable pub wordAt : List ℕ → ℕ → ℕ
@@ -100,3 +119,7 @@ heldSeen switch x = record { controller = held (state switch (x .calls)); digest
 abbrev pub Plays : Played → Played → (ℕ → Seen → Seen) → Type 0
 Plays was r f = (s : ℕ) (h : List Call) → held (state s h) ≡ was .controller
     → r ≡ heldSeen s (f s (seen h (was .digest)))
+
+-- What a lent buffer holds after a call.
+abbrev pub Lends : Played → List ℕ → (ℕ → Seen → List ℕ) → Type 0
+Lends was x f = (s : ℕ) (h : List Call) → held (state s h) ≡ was .controller → x ≡ f s (seen h (was .digest))

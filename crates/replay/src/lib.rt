@@ -1,12 +1,15 @@
 // Lists of calls played to a fresh controller, all their answers in one digest: two machines that answer alike have
 // the same digest for every list. The entry is total, for every switch and every list of bytes, and answers the digest
 // of the machine of the crate `machine` (specs/Replay.antt). Assumes nothing.
-ghost use Prim.Native.Nat.{_+_, _≤_};
+ghost use Prim.Native.Nat.{_+_, _%_, _≤_};
+ghost use mathlib.Core.Bool.{cond, _||_};
 ghost use mathlib.Core.Path.{_≡_};
+ghost use lib.Dec.{eqb};
 ghost use lib.ListN.{length};
 ghost use Rattle.controller.specs.Reach.{Reachable};
 ghost use Rattle.replay.specs.Replay.{heldSeen, Plays, begun, called, wordAt, replayed};
 use crate::play::Played;
+use block::REPLY_ROOM;
 
 pub mod digest;
 mod play;
@@ -19,10 +22,13 @@ const VALUE: usize = 1;
 
 const COUNT: usize = 5;
 
-// The kinds of call that alter a controller; every other kind reads it.
+// The kinds of call that alter a controller; every other kind reads it. `TICKS` has 120 bytes lent, `TICK` is one tick
+// with as many bytes lent as it says.
 const TICKS: u8 = 0;
 
 const BYTE: u8 = 1;
+
+const TICK: u8 = 3;
 
 // A byte as a number.
 fn wide(b: u8) -> u32
@@ -53,13 +59,45 @@ fn begin(switch: u8) -> Played
     Played { controller, digest }
 }
 
+// So many ticks, or one: both are played in one place, so that the compiler can make the tick a part of it.
+fn is_ticks(kind: u8) -> bool
+    ensures { λ r. ⌜ r ≡ eqb kind 0 || eqb kind 3 ⌝ }
+{
+    if kind == TICKS {
+        return true;
+    }
+    kind == TICK
+}
+
+// How many ticks.
+fn tick_count(kind: u8, count: u32) -> u32
+    ensures { λ r. ⌜ r ≡ cond (eqb kind 3) 1 count ⌝ }
+{
+    if kind == TICK {
+        return 1;
+    }
+    count
+}
+
+// How many zeros are lent to them.
+fn tick_room(kind: u8, count: u32) -> usize
+    ensures { λ r. ⌜ (r ≡ cond (eqb kind 3) (count % 256) 120) × (r ≤ 255) ⌝ }
+{
+    if kind == TICK {
+        return (count % 256) as usize;
+    }
+    REPLY_ROOM
+}
+
 // One call of the list.
 fn call(was: Played, kind: u8, value: u32, count: u32) -> Played
     requires { ⌜ Reachable (was .controller) ⌝ }
     ensures { λ r. ⌜ Plays was r (λ s. called s kind value count) ⌝ }
 {
-    if kind == TICKS {
-        return play::ticks(was, value, count);
+    if is_ticks(kind) {
+        let n = tick_count(kind, count);
+        let room = tick_room(kind, count);
+        return play::ticks(was, value, n, room, kind == TICK);
     }
     if kind == BYTE {
         return play::send(

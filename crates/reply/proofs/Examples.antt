@@ -12,7 +12,7 @@ use Rattle.block.specs.Block.{blockOf, rowOf}
 use Rattle.line.specs.declared.command.Command.the-variants as C
 use Rattle.line.specs.declared.command.Reading.the-variants as R
 use Rattle.reply.specs.declared.readings.Readings.{Readings}
-use Rattle.reply.specs.Reply.{twenty, positionOf, toldBy, replyOf, refusalOf}
+use Rattle.reply.specs.Reply.{twenty, positionOf, toldBy, replyOf, inputsOf, refusalOf}
 
 -- The bytes of a text, then 0D.
 abbrev ended : S.String → List ℕ
@@ -44,7 +44,9 @@ pub record Examples : Type 0 where
   pub echo : replyOf (toldBy readings) (C.Order 11) 0xB1FA00 Absent ≡ ended "S0B1FA00"
   pub input-setting : replyOf (toldBy readings) (C.Set 13 1) 0xD00001 Absent ≡ ended "S0D00001"
   pub setting : replyOf (toldBy readings) (C.Set 8 1) 0x800001 Absent ≡ ended "U0000000"
-  pub inputs : replyOf (toldBy readings) (C.Read R.Inputs) 0 Absent ≡ ended "R0001000"
+  pub query : replyOf (toldBy readings) (C.Read R.Inputs) 0 Absent ≡ []
+  pub outputs : replyOf (toldBy readings) (C.Outputs 0xABCDEF) 0xABCDEF (Given 49) ≡ []
+  pub inputs : inputsOf 0 4096 (Given 49) ≡ ended "R00010001"
   pub everything : replyOf (toldBy readings) (C.Read R.Everything) 0x800000 (Given 57) ≡
       ended "S00000059" ++ ended "S01000019" ++ ended "S02800039" ++ ended "S03000009" ++ ended "S04000009"
       ++ ended "S06000039" ++ ended "s00FFFFF9" ++ ended "s01FFFF69" ++ ended "s02000009" ++ ended "s037FFFF9"
@@ -53,7 +55,7 @@ pub record Examples : Type 0 where
   pub seven : refusalOf 10 7 (Given 66) ≡ ended "UA000007"
 
 pub examples : Examples
-unfolding replyOf refusalOf blockOf rowOf sixOf
+unfolding replyOf inputsOf refusalOf blockOf rowOf sixOf
 examples =
     record {
       least = refl;
@@ -67,6 +69,8 @@ examples =
       echo = refl;
       input-setting = refl;
       setting = refl;
+      query = refl;
+      outputs = refl;
       inputs = refl;
       everything = refl;
       sixteen = refl;

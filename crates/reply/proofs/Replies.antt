@@ -3,14 +3,14 @@
 use Prim.Native.Nat.{ℕ, _≤_, _<_}
 use mathlib.Core.Bool.{true}
 use mathlib.Core.List.{List, [], _∷_}
-use mathlib.Core.Path.{_≡_, refl, ap, _∙_}
+use mathlib.Core.Path.{_≡_, refl, sym, ap, _∙_}
 use native.Mathlib.Omega.{arith}
 use lib.Dec.{lit<}
 use lib.ListN.{length}
 use Rattle.digits.specs.declared.Ident.{Ident}
 use Rattle.block.specs.Block.{rowOf, over, laid, laidLength}
-use Rattle.block.proofs.Blocks.{block-least, block-most, row-least, row-most}
-use Rattle.block.proofs.Buffers.{laid-over, laid-over-length}
+use Rattle.block.proofs.Blocks.{block-least, block-most, row-most}
+use Rattle.block.proofs.Buffers.{laid-over, laid-over-length, over-nil}
 use Rattle.line.specs.declared.command.Command.{Command}
 use Rattle.line.specs.declared.command.Command.the-variants as C
 use Rattle.line.specs.declared.command.Reading.{Reading}
@@ -18,7 +18,7 @@ use Rattle.line.specs.declared.command.Reading.the-variants as R
 use Rattle.line.specs.Ranges.{readingFits, fits}
 use Rattle.line.proofs.Ranges.{axis}
 use Rattle.reply.specs.declared.Answer.{Answer}
-use Rattle.reply.specs.declared.Answer.the-variants.{One, All}
+use Rattle.reply.specs.declared.Answer.the-variants.{One, All, Later}
 use Rattle.reply.specs.Reply.{
   Told,
   coded,
@@ -35,6 +35,7 @@ use Rattle.reply.specs.Reply.{
   replyOf,
   refusalIdent,
   refusalOf,
+  inputsOf,
 }
 
 -- ---- what is written
@@ -43,6 +44,13 @@ use Rattle.reply.specs.Reply.{
 pub written : {s r : List ℕ} (d : List ℕ) {n : ℕ} {buf : List ℕ} → s ≡ r → n ≡ laidLength 0 s d → buf ≡ laid 0 s d
     → (n ≡ laidLength 0 r d) × (buf ≡ laid 0 r d)
 written d e p q = (p ∙ ap (λ (x : List ℕ). laidLength 0 x d) e, q ∙ ap (λ (x : List ℕ). laid 0 x d) e)
+
+-- Nothing was laid into d.
+pub nothing-laid : (d : List ℕ) → (0 ≡ laidLength 0 [] d) × (d ≡ laid 0 [] d)
+nothing-laid d = (
+  sym (laid-over-length [] d (omega arith)),
+  sym (laid-over [] d (omega arith) ∙ over-nil d),
+)
 
 pub one-block : (t : Told) (c : Command) (digits : ℕ) (ident : Ident) (letter number : ℕ)
     → One letter number ≡ answerOf t c digits → blockFor (t .switch) letter number ident ≡ replyOf t c digits ident
@@ -55,6 +63,15 @@ unfolding replyOf
 twelve-blocks t c digits ident p e =
     ap (λ (x : List ℕ). rowOf 12 letters x (t .switch) ident) p ∙ ap (λ (a : Answer). bytesOf t a ident) e
 
+pub no-block : (t : Told) (c : Command) (digits : ℕ) (ident : Ident) → Later ≡ answerOf t c digits
+    → [] ≡ replyOf t c digits ident
+unfolding replyOf
+no-block t c digits ident e = ap (λ (a : Answer). bytesOf t a ident) e
+
+pub inputs-block : (switch w : ℕ) (ident : Ident) → blockFor switch letterR w ident ≡ inputsOf switch w ident
+unfolding inputsOf
+inputs-block switch w ident = refl
+
 pub refusal-block : (switch n : ℕ) (ident shown : Ident) → shown ≡ refusalIdent n ident
     → blockFor switch letterU n shown ≡ refusalOf switch n ident
 unfolding refusalOf
@@ -63,20 +80,13 @@ refusal-block switch n ident shown e = ap (λ (x : Ident). blockFor switch lette
 -- ---- lengths
 
 module _ (t : Told) (ident : Ident) where
-  bytes-least : (a : Answer) → 9 ≤ length (bytesOf t a ident)
-  bytes-least (One letter n) = block-least (record { letter = letter; switch = t .switch; number = n; ident = ident })
-  bytes-least All = omega (arith, row-least letters (numbers t) (t .switch) ident)
-
   bytes-most : (a : Answer) → length (bytesOf t a ident) ≤ 120
   bytes-most (One letter n) =
       omega (arith, block-most (record { letter = letter; switch = t .switch; number = n; ident = ident }))
   bytes-most All = row-most letters (numbers t) (t .switch) ident
+  bytes-most Later = omega arith
 
 module _ (t : Told) (c : Command) (digits : ℕ) (ident : Ident) where
-  pub reply-least : 9 ≤ length (replyOf t c digits ident)
-  unfolding replyOf
-  reply-least = bytes-least t ident (answerOf t c digits)
-
   pub reply-most : length (replyOf t c digits ident) ≤ 120
   unfolding replyOf
   reply-most = bytes-most t ident (answerOf t c digits)
@@ -109,6 +119,19 @@ module _ (switch n : ℕ) (ident : Ident) where
       → laidLength 0 (refusalOf switch n ident) d ≡ length (refusalOf switch n ident)
   refusal-length d h = laid-over-length (refusalOf switch n ident) d (omega (arith, refusal-most))
 
+module _ (switch w : ℕ) (ident : Ident) where
+  pub inputs-most : length (inputsOf switch w ident) ≤ 10
+  unfolding inputsOf
+  inputs-most = block-most (record { letter = letterR; switch = switch; number = w; ident = ident })
+
+  pub inputs-over : (d : List ℕ) → 120 ≤ length d
+      → laid 0 (inputsOf switch w ident) d ≡ over (inputsOf switch w ident) d
+  inputs-over d h = laid-over (inputsOf switch w ident) d (omega (arith, inputs-most))
+
+  pub inputs-length : (d : List ℕ) → 120 ≤ length d
+      → laidLength 0 (inputsOf switch w ident) d ≡ length (inputsOf switch w ident)
+  inputs-length d h = laid-over-length (inputsOf switch w ident) d (omega (arith, inputs-most))
+
 -- ---- what a reply depends on
 
 -- What two can tell of the five axes, the status and the inputs is the same.
@@ -120,14 +143,14 @@ module _ (t u : Told) (switch : t .switch ≡ u .switch) (travels : (k : ℕ) �
   same-reading (R.Position k) e = ap (λ (x : ℕ). One letterSmallS (coded k x)) (positions k (axis k e))
   same-reading R.Status e = ap (λ (x : ℕ). One letterS (coded 6 x)) status
   same-reading R.Everything e = refl
-  same-reading R.Inputs e = ap (One letterR) inputs
+  same-reading R.Inputs e = refl
 
   same-answer : (c : Command) (digits : ℕ) → fits c ≡ true → answerOf t c digits ≡ answerOf u c digits
   same-answer (C.Distance k minus d) digits e = refl
   same-answer (C.Set code v) digits e = refl
   same-answer (C.Start k waits) digits e = refl
   same-answer (C.Order code) digits e = refl
-  same-answer (C.Outputs v) digits e = ap (One letterR) inputs
+  same-answer (C.Outputs v) digits e = refl
   same-answer (C.Read r) digits e = same-reading r e
 
   same-numbers : numbers t ≡ numbers u
@@ -141,6 +164,7 @@ module _ (t u : Told) (switch : t .switch ≡ u .switch) (travels : (k : ℕ) �
   same-bytes : (a : Answer) (ident : Ident) → bytesOf t a ident ≡ bytesOf u a ident
   same-bytes (One letter n) ident = ap (λ (s : ℕ). blockFor s letter n ident) switch
   same-bytes All ident = λ i. rowOf 12 letters (same-numbers i) (switch i) ident
+  same-bytes Later ident = refl
 
   pub reply-same : (c : Command) → fits c ≡ true → (digits : ℕ) (ident : Ident)
       → replyOf t c digits ident ≡ replyOf u c digits ident

@@ -16,7 +16,7 @@ use Rattle.line.specs.declared.command.Command.the-variants as C
 use Rattle.line.specs.declared.command.Reading.{Reading}
 use Rattle.line.specs.declared.command.Reading.the-variants as R
 use Rattle.reply.specs.declared.Answer.{Answer}
-use Rattle.reply.specs.declared.Answer.the-variants.{One, All}
+use Rattle.reply.specs.declared.Answer.the-variants.{One, All, Later}
 use Rattle.reply.specs.declared.readings.Position.{Position}
 use Rattle.reply.specs.declared.readings.Readings.{Readings}
 
@@ -65,36 +65,41 @@ numbers t =
     ∷ coded 0 (t .position 0) ∷ coded 1 (t .position 1) ∷ coded 2 (t .position 2) ∷ coded 3 (t .position 3)
     ∷ coded 4 (t .position 4) ∷ t .inputs ∷ []
 
--- Q readings: S, code, the latest move's minus bit with travel, or status. q: s, code, position; q 8 everything. W: R
--- with the last tick's inputs.
+-- Q readings: S, code, the latest move's minus bit with travel, or status. q: s, code, position; q 8 everything. W:
+-- nothing, for its block comes with a later tick (paper 02, 3/14).
 abbrev pub readingOf : Told → Reading → Answer
 readingOf t (R.Travel k) = One letterS (coded k (t .travel k))
 readingOf t (R.Position k) = One letterSmallS (coded k (t .position k))
 readingOf t R.Status = One letterS (coded 6 (t .status))
 readingOf t R.Everything = All
-readingOf t R.Inputs = One letterR (t .inputs)
+readingOf t R.Inputs = Later
 
 -- A setting: P (codes to C) U with 000000, Q (D and E) S echoing.
 abbrev pub settingOf : ℕ → ℕ → Answer
 settingOf code digits = cond (ltb code 13) (One letterU 0) (One letterS digits)
 
--- P: U with 000000. Readings as above. Other Q: S echoing the digits, absent ones 0. W: R with the last tick's inputs.
+-- P: U with 000000. Readings as above. Other Q: S echoing the digits, absent ones 0. W: nothing yet.
 abbrev pub answerOf : Told → Command → ℕ → Answer
 answerOf t (C.Distance k minus d) digits = One letterU 0
 answerOf t (C.Set code v) digits = settingOf code digits
 answerOf t (C.Start k waits) digits = One letterS digits
 answerOf t (C.Order code) digits = One letterS digits
-answerOf t (C.Outputs v) digits = One letterR (t .inputs)
+answerOf t (C.Outputs v) digits = Later
 answerOf t (C.Read r) digits = readingOf t r
 
 -- The bytes of an answer.
 abbrev pub bytesOf : Told → Answer → Ident → List ℕ
 bytesOf t (One letter number) ident = blockFor (t .switch) letter number ident
 bytesOf t All ident = rowOf 12 letters (numbers t) (t .switch) ident
+bytesOf t Later ident = []
 
 -- The reply to a command with these six digits and this identification.
 unfoldable pub replyOf : Told → Command → ℕ → Ident → List ℕ
 replyOf t c digits ident = bytesOf t (answerOf t c digits) ident
+
+-- The block of a W line: R with the inputs (paper 02, 3/14: those of the 2,500th tick after it).
+unfoldable pub inputsOf : ℕ → ℕ → Ident → List ℕ
+inputsOf switch inputs ident = blockFor switch letterR inputs ident
 
 -- A turned-away line answers U 0000nn, nn its number, with the line's identification from 8 on and none for 4 to 7.
 abbrev pub refusalIdent : ℕ → Ident → Ident

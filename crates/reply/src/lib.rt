@@ -10,6 +10,7 @@ ghost use Rattle.reply.specs.Reply.{
   replyOf,
   refusalIdent,
   refusalOf,
+  inputsOf,
 };
 use crate::numbers::all_numbers;
 use crate::numbers::position_number;
@@ -37,6 +38,8 @@ enum Answer {
     One(u8, u32),
     // The twelve of q 8.
     All,
+    // Nothing yet: the block of a W line comes with a later tick.
+    Later,
 }
 
 // What a reading is answered.
@@ -48,7 +51,7 @@ fn reading_answer(readings: Readings, reading: Reading) -> Answer
         Reading::Position(axis) => Answer::One(b's', position_number(readings, axis)),
         Reading::Status => Answer::One(b'S', status_number(readings.status)),
         Reading::Everything => Answer::All,
-        Reading::Inputs => Answer::One(b'R', readings.inputs),
+        Reading::Inputs => Answer::Later,
     }
 }
 
@@ -73,7 +76,7 @@ fn answer_to(readings: Readings, command: Command, digits: u32) -> Answer
             waits: _,
         } => Answer::One(b'S', digits),
         Command::Order(_) => Answer::One(b'S', digits),
-        Command::Outputs(_) => Answer::One(b'R', readings.inputs),
+        Command::Outputs(_) => Answer::Later,
         Command::Read(reading) => reading_answer(readings, reading),
     }
 }
@@ -105,7 +108,22 @@ pub fn write_reply(
             let numbers = all_numbers(readings);
             block::write_twelve(buf, letters, numbers, readings.switch, ident)
         }
+        Answer::Later => 0,
     }
+}
+
+// The block of a W line, with these inputs, and its length: nothing and 0 where it has no room.
+pub fn write_inputs(buf: &mut [u8], switch: u8, inputs: u32, ident: Ident) -> usize
+    ensures { λ r. ⌜ r ≡ laidLength 0 (inputsOf switch inputs ident) (now (buf .entry)) ⌝ }
+    ensures { λ r. ⌜ now (buf .exit) ≡ laid 0 (inputsOf switch inputs ident) (now (buf .entry)) ⌝ }
+{
+    let block = Block {
+        letter: b'R',
+        switch,
+        number: inputs,
+        ident,
+    };
+    block::write_block(buf, 0, block)
 }
 
 // The identification that a turned-away line is answered with.

@@ -1,4 +1,5 @@
 mod AskedLaws
+mod BlockLaws
 mod SumLaws
 mod DecimalLaws
 mod TextLaws

@@ -1,16 +1,13 @@
 -- Laws of the parts of a step: what a line that begins with T and a byte that goes in answer, as it is held.
 -- Assumes nothing.
-use Prim.Native.Nat.{ℕ, _≤_}
+use Prim.Native.Nat.{ℕ, _+_, _≤_}
 use native.Mathlib.Omega.{arith}
-use mathlib.Core.Bool.{false}
-use mathlib.Core.List.{List, [], _∷_}
+use mathlib.Core.List.{List, [], _∷_, _++_}
 use mathlib.Core.Path.{_≡_, sym, ap, _∙_}
-use borrow.Author.Tests.{le-ltb}
-use lib.Dec.{ltb}
-use lib.ListN.{length, set}
+use lib.ListN.{length, take, set, length-append}
 use Rattle.laws.specs.Axes.{each}
-use Rattle.block.specs.Block.{over}
-use Rattle.block.proofs.Buffers.{stores}
+use Rattle.block.specs.Block.{over, put}
+use Rattle.block.proofs.Buffers.{stores, put-over}
 use Rattle.machine.specs.State.{Machine}
 use Rattle.machine.specs.Steps.{byteStep}
 use Rattle.controller.specs.declared.state.Controller.{Controller}
@@ -21,38 +18,49 @@ use Rattle.session.specs.declared.ticks.Ran.{Ran}
 use Rattle.session.specs.declared.state.Place.the-variants.{Start, Sending}
 use Rattle.session.specs.declared.state.Sent.{Sent}
 use Rattle.session.specs.declared.state.Taken.{Taken}
-use Rattle.session.specs.Ticks.{sumOf, ranOf}
-use Rattle.session.specs.Text.{sumsText, sumsLength, sumsOver}
-use Rattle.session.specs.Session.{starting, sending, sends, asks, Told, Passed, stoodAt, atStart}
+use Rattle.session.specs.Ticks.{sumOf, blocksOf, ranOf}
+use Rattle.session.specs.Text.{sumsText}
+use Rattle.session.specs.Session.{starting, sending, shown, sends, asks, Told, Passed, stoodAt, atStart}
+use Rattle.session.proofs.BlockLaws.{blocks-most}
+use Rattle.session.proofs.PrintLaws.{shown-length, over-shown}
 
 pub question-over : (d : List ℕ) → 120 ≤ length d → set (set d 0 63) 1 10 ≡ over (63 ∷ 10 ∷ []) d
 question-over d h = stores (63 ∷ 10 ∷ []) d (omega arith)
+
+-- Ticks answer ten bytes at most.
+pub ran-small : (n w : ℕ) (m : Machine) (ran : Ran) → ran ≡ ranOf n w m → ran .length ≤ 10
+ran-small n w m ran e = let k = blocks-most w m n in let a = ap (λ (r : Ran). r .length) e in omega (arith, k, a)
 
 module _ (m : Machine) (d x : List ℕ) where
   pub question-told : (c : Controller) (r : Taken) → held m ≡ c → r ≡ atStart c 2 → x ≡ over (63 ∷ 10 ∷ []) d
       → Told r x d (asks m Malformed)
   question-told c r e p q = (p ∙ ap (λ (y : Controller). atStart y 2) (sym e), q)
 
-  pub ticks-told : (n w : ℕ) (ran : Ran) (l : ℕ) (r : Taken) → 120 ≤ length d → ran ≡ ranOf n w m
-      → l ≡ sumsLength (ran .sums) d → x ≡ sumsOver (ran .sums) d
+  -- Ticks ran, their block stands as it is printed, and the sums were written behind it.
+  pub ticks-told : (n w : ℕ) (ran : Ran) (b y : List ℕ) (l : ℕ) (r : Taken) → ran ≡ ranOf n w m
+      → b ≡ over (blocksOf n w m) d → y ≡ over (shown (take (ran .length) b)) b
+      → l ≡ ran .length + length (sumsText 5 (ran .sums)) → x ≡ put (ran .length) (sumsText 5 (ran .sums)) y
       → r ≡ stoodAt (record { controller = ran .controller; length = l; number = ran .number }) Start
       → Told r x d (asks m (Ticks n w))
-  ticks-told n w ran l r h e p q s = (
+  ticks-told n w ran b y l r e p q u z s = (
     s ∙ (λ i. stoodAt (record { controller = e i .controller; length = size i; number = e i .number }) Start),
-    q ∙ wrote ∙ ap (λ (y : Ran). over (sumsText 5 (y .sums)) d) e,
+    z ∙ ((λ i. put (at i) (sumsText 5 (e i .sums)) (stands i)) ∙ put-over (shown block) sums d),
   )
     where
-      room : ltb (length d) 60 ≡ false
-      room = le-ltb (length d) 60 (omega arith)
+      block : List ℕ
+      block = blocksOf n w m
 
-      long : sumsLength (ran .sums) d ≡ length (sumsText 5 (ran .sums))
-      long = rw room
+      sums : List ℕ
+      sums = sumsText 5 (each (sumOf n w m))
 
-      size : l ≡ length (sumsText 5 (each (sumOf n w m)))
-      size = p ∙ long ∙ ap (λ (y : Ran). length (sumsText 5 (y .sums))) e
+      at : ran .length ≡ length (shown block)
+      at = ap (λ (k : Ran). k .length) e ∙ sym (shown-length block)
 
-      wrote : sumsOver (ran .sums) d ≡ over (sumsText 5 (ran .sums)) d
-      wrote = rw room
+      stands : y ≡ over (shown block) d
+      stands = q ∙ ((λ i. over (shown (take (e i .length) (p i))) (p i)) ∙ over-shown block d)
+
+      size : l ≡ length (shown block ++ sums)
+      size = u ∙ ((λ i. at i + length (sumsText 5 (e i .sums))) ∙ sym (length-append (shown block) sums))
 
   pub sent-told : (b : ℕ) (s : Sent) (r : Taken) → Passed s x d (byteStep m b buffer) → r ≡ stoodAt s Start
       → Told r x d (sends m b starting)

@@ -36,7 +36,7 @@ use Rattle.session.specs.Session.{shownByte, shown, Passed}
 
 -- ---- byte by byte
 
-shown-length : (l : List ℕ) → length (shown l) ≡ length l
+pub shown-length : (l : List ℕ) → length (shown l) ≡ length l
 shown-length [] = refl
 shown-length (c ∷ l) = ap suc (shown-length l)
 
@@ -102,7 +102,7 @@ answer-most m b (accepted c digits silent ident) =
 pub reply-size : (m : Machine) (b : ℕ) (d : List ℕ) → length (byteStep m b d .reply) ≤ 120
 reply-size m b d = answer-most m b (outcome m b d)
 
-over-shown : (s d : List ℕ) → over (shown (take (length s) (over s d))) (over s d) ≡ over (shown s) d
+pub over-shown : (s d : List ℕ) → over (shown (take (length s) (over s d))) (over s d) ≡ over (shown s) d
 unfolding over
 over-shown s d = rw (take-append-seam s (drop (length s) d), shown-length s, drop-append-seam s (drop (length s) d))
 

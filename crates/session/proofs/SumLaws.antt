@@ -16,16 +16,28 @@ use Rattle.laws.specs.Axes.{each}
 use Rattle.laws.proofs.Pick.{by-lt}
 use Rattle.laws.proofs.Five.{five}
 use Rattle.laws.proofs.Signs.{neg-size}
+use Rattle.block.specs.Block.{over}
 use Rattle.machine.specs.State.{Machine}
 use Rattle.machine.specs.Steps.{tickStep}
 use Rattle.machine.specs.Starts.{outside}
-use Rattle.machine.specs.Calls.{Call, tick, run, state, ticks}
+use Rattle.machine.specs.Calls.{Call, tick, run, state, buffer, ticks}
 use Rattle.machine.specs.List.{signed, position, latest}
 use Rattle.machine.proofs.DemandLaws.{demand-3}
 use Rattle.controller.specs.declared.state.Controller.{Controller}
 use Rattle.controller.specs.Held.{held}
 use Rattle.session.specs.declared.ticks.Ran.{Ran}
-use Rattle.session.specs.Ticks.{afterTicks, sumOf, numberIn, ranOf, tickedOf, Room, Rooms, Small}
+use Rattle.session.specs.Ticks.{
+  afterTicks,
+  sumOf,
+  numberIn,
+  blocksOf,
+  ranOf,
+  tickedOf,
+  Room,
+  Rooms,
+  Small,
+}
+use Rattle.session.proofs.BlockLaws.{block-length, block-over}
 
 -- ---- what a sum's bits are
 
@@ -101,14 +113,14 @@ module _ (s w : ℕ) (h : List Call) where
   pub past-state : (n : ℕ) → state s (ticks n w h) ≡ afterTicks n w (state s h)
   unfolding run
   past-state zero = refl
-  past-state (suc n) = ap (λ (m : Machine). tickStep m w .machine) (past-state n)
+  past-state (suc n) = ap (λ (m : Machine). tickStep m w buffer .machine) (past-state n)
 
   past-sum : (n k : ℕ) → signed s (ticks n w h) k ≡ signed s h k +ℤ sumOf n w (state s h) k
   unfolding signed sumOf
   past-sum zero k = sym (+ℤ-idr (signed s h k))
   past-sum (suc n) k =
-      (λ i. past-sum n k i +ℤ tickStep (past-state n i) w .pulse k)
-      ∙ +ℤ-assoc (signed s h k) (sumOf n w (state s h) k) (tickStep (afterTicks n w (state s h)) w .pulse k)
+      (λ i. past-sum n k i +ℤ tickStep (past-state n i) w buffer .pulse k)
+      ∙ +ℤ-assoc (signed s h k) (sumOf n w (state s h) k) (tickStep (afterTicks n w (state s h)) w buffer .pulse k)
 
   sum-size : (n k : ℕ) → k < 5 → natAbs (sumOf n w (state s h) k) ≤ 1048576
   sum-size n k l =
@@ -133,14 +145,14 @@ module _ (s w : ℕ) (h : List Call) where
           (sum-size n 0 (omega arith)) (sum-size n 1 (omega arith)) (sum-size n 2 (omega arith))
           (sum-size n 3 (omega arith)) (sum-size n 4 (omega arith))
 
-  single : (k : ℕ) → k < 5 → natAbs (tickStep (state s h) w .pulse k) ≤ 1
+  single : (k : ℕ) → k < 5 → natAbs (tickStep (state s h) w buffer .pulse k) ≤ 1
   unfolding latest
-  single k l = demand-3 s (tick w ∷ h) k l .answer .single
+  single k l = demand-3 s (tick w buffer ∷ h) k l .answer .single
 
   -- A tick's pulses can be added to small sums.
-  pub rooms : (sums : List ℤ) → Small sums → Rooms sums (each (tickStep (state s h) w .pulse))
+  pub rooms : (sums : List ℤ) → Small sums → Rooms sums (each (tickStep (state s h) w buffer .pulse))
   rooms sums small =
-      five (λ (j : ℕ). Room (getD sums j (pos 0)) (getD (each (tickStep (state s h) w .pulse)) j (pos 0)))
+      five (λ (j : ℕ). Room (getD sums j (pos 0)) (getD (each (tickStep (state s h) w buffer .pulse)) j (pos 0)))
       (room-of _ _ (small 0 (omega arith)) (single 0 (omega arith)))
       (room-of _ _ (small 1 (omega arith)) (single 1 (omega arith)))
       (room-of _ _ (small 2 (omega arith)) (single 2 (omega arith)))
@@ -148,19 +160,37 @@ module _ (s w : ℕ) (h : List Call) where
       (room-of _ _ (small 4 (omega arith)) (single 4 (omega arith)))
 
   pub none-ran : (c : Controller) → held (state s h) ≡ c
-      → record { controller = c; sums = pos 0 ∷ pos 0 ∷ pos 0 ∷ pos 0 ∷ pos 0 ∷ []; number = 0 } ≡ ranOf 0 w (state s h)
-  unfolding run sumOf numberIn
-  none-ran c e = λ i. record { controller = sym e i; sums = pos 0 ∷ pos 0 ∷ pos 0 ∷ pos 0 ∷ pos 0 ∷ []; number = 0 }
+      → record { controller = c; sums = pos 0 ∷ pos 0 ∷ pos 0 ∷ pos 0 ∷ pos 0 ∷ []; number = 0; length = 0 }
+      ≡ ranOf 0 w (state s h)
+  unfolding run sumOf numberIn blocksOf
+  none-ran c e =
+      λ i. record { controller = sym e i; sums = pos 0 ∷ pos 0 ∷ pos 0 ∷ pos 0 ∷ pos 0 ∷ []; number = 0; length = 0 }
 
-  pub next-made : (r : Ran) (sums : List ℤ) (before : ℕ) → r ≡ tickedOf sums before (tickStep (state s h) w)
-      → held (state s (tick w ∷ h)) ≡ r .controller
+  pub next-made : (r ran : Ran) → r ≡ tickedOf ran (tickStep (state s h) w buffer)
+      → held (state s (tick w buffer ∷ h)) ≡ r .controller
   unfolding run
-  next-made r sums before e = sym (ap (λ (x : Ran). x .controller) e)
+  next-made r ran e = sym (ap (λ (x : Ran). x .controller) e)
 
   -- One tick more.
   pub next-ran : (n : ℕ) (ran next : Ran) → ran ≡ ranOf n w (state s h)
-      → next ≡ tickedOf (ran .sums) (ran .number) (tickStep (state s (ticks n w h)) w)
+      → next ≡ tickedOf ran (tickStep (state s (ticks n w h)) w buffer)
       → next ≡ ranOf (n + 1) w (state s h)
   unfolding run sumOf numberIn
   next-ran n ran next p e =
-      rw add-one (e ∙ λ i. tickedOf (p i .sums) (p i .number) (tickStep (past-state n i) w))
+      rw add-one
+      (e
+      ∙ ((λ i. tickedOf (p i) (tickStep (past-state n i) w buffer))
+      ∙ (λ i. record {
+        controller = held (afterTicks (suc n) w (state s h));
+        sums = each (sumOf (suc n) w (state s h));
+        number = numberIn (suc n) w (state s h);
+        length = block-length w (state s h) n i;
+      })))
+
+  -- What is in the buffer after it.
+  pub next-buffer : (n : ℕ) (d before after : List ℕ) → before ≡ over (blocksOf n w (state s h)) d
+      → after ≡ over (tickStep (state s (ticks n w h)) w buffer .reply) before
+      → after ≡ over (blocksOf (n + 1) w (state s h)) d
+  next-buffer n d before after p e =
+      rw add-one
+      (e ∙ ((λ i. over (tickStep (past-state n i) w buffer .reply) (p i)) ∙ block-over w (state s h) n d))

@@ -1,5 +1,5 @@
 -- Laws of sums as text: numbers with their signs and marks, laid into a buffer. Assumes nothing.
-use Prim.Native.Nat.{ℕ, _+_, _≤_, _<_}
+use Prim.Native.Nat.{ℕ, _+_, _-_, _≤_, _<_}
 use native.Mathlib.Numerals.{add-one}
 use native.Mathlib.Omega.{arith}
 use mathlib.Core.Bool.{Bool, true, false}
@@ -7,10 +7,11 @@ use mathlib.Core.List.{List, [], _∷_, _++_}
 use mathlib.Core.Path.{_≡_, refl, sym, ap, _∙_}
 use borrow.Author.Tests.{lt-ltb, le-ltb}
 use lib.IntN.{ℤ, pos, natAbs}
-use lib.ListN.{length, getD, set, length-append}
+use lib.Dec.{ltb}
+use lib.ListN.{length, getD, take, drop, set, length-append, length-take, length-drop}
 use Rattle.laws.specs.Axes.{isMinus}
 use Rattle.block.specs.Block.{over, put}
-use Rattle.block.proofs.Buffers.{put-over}
+use Rattle.block.proofs.Buffers.{put-over, part-over}
 use Rattle.block.proofs.Places.{put-snoc, put-one, put-put}
 use Rattle.session.specs.Text.{
   decimalOf,
@@ -106,3 +107,35 @@ module _ (zs : List ℤ) (d : List ℕ) where
   pub with-room : (r : ℕ) (x : List ℕ) → 60 ≤ length d → r ≡ length (sumsText 5 zs) → x ≡ over (sumsText 5 zs) d
       → (r ≡ sumsLength zs d) × (x ≡ sumsOver zs d)
   with-room r x h p q = (rw (le-ltb (length d) 60 h) p, rw (le-ltb (length d) 60 h) q)
+
+-- They were written to the part of d from the place `at` on, which kept its length.
+pub record Behind (zs : List ℤ) (d : List ℕ) (at r : ℕ) (part : List ℕ) : Type 0 where
+  pub place : at + r ≡ at + length (sumsText 5 zs)
+  pub room : at + r ≤ length d
+  pub whole : take at d ++ (part ++ drop (length d - at) (drop at d)) ≡ put at (sumsText 5 zs) d
+
+pub behind : (zs : List ℤ) (d : List ℕ) (at r : ℕ) (part : List ℕ) → at + 60 ≤ length d
+    → r ≡ sumsLength zs (take (length d - at) (drop at d)) → part ≡ sumsOver zs (take (length d - at) (drop at d))
+    → length part ≡ length (take (length d - at) (drop at d)) → Behind zs d at r part
+unfolding over
+behind zs d at r part h p q k = record {
+  place = ap (λ (n : ℕ). at + n) told;
+  room = omega (arith, told, long, k, space, h);
+  whole = part-over at (sumsText 5 zs) d part wrote;
+}
+  where
+    space : length (take (length d - at) (drop at d)) ≡ length d - at
+    space = simp (length-take, length-drop) (omega arith)
+
+    fits : ltb (length (take (length d - at) (drop at d))) 60 ≡ false
+    fits = le-ltb (length (take (length d - at) (drop at d))) 60 (omega (arith, space, h))
+
+    told : r ≡ length (sumsText 5 zs)
+    told = p ∙ rw fits
+
+    wrote : part ≡ over (sumsText 5 zs) (take (length d - at) (drop at d))
+    wrote = q ∙ rw fits
+
+    long : length part ≡ length (sumsText 5 zs)
+        + length (drop (length (sumsText 5 zs)) (take (length d - at) (drop at d)))
+    long = ap length wrote ∙ length-append (sumsText 5 zs) _

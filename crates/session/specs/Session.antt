@@ -23,7 +23,7 @@ use Rattle.session.specs.declared.state.Session.{Session}
 use Rattle.session.specs.declared.state.Taken.{Taken}
 use Rattle.session.specs.declared.state.Sent.{Sent}
 use Rattle.session.specs.Asked.{letterT, askedOf}
-use Rattle.session.specs.Ticks.{afterTicks, sumOf, numberIn}
+use Rattle.session.specs.Ticks.{afterTicks, sumOf, numberIn, blocksOf}
 use Rattle.session.specs.Text.{sumsText}
 use Rattle.session.specs.Kept.{keeping}
 
@@ -73,12 +73,13 @@ sends m b p = sent (byteStep m b buffer) p
 abbrev pub keeps : Machine → List ℕ → Answer
 keeps m l = record { bench = record { machine = m; place = asking l }; printed = []; number = 0 }
 
--- A line that begins with T runs n ticks and prints the sums of the signed pulses of axes 0 to 4; or prints `?` (63).
+-- A line that begins with T runs n ticks and prints the block of a W line that comes in them, if one does (paper 02,
+-- 3/14), and then the sums of the signed pulses of axes 0 to 4; or prints `?` (63).
 abbrev pub asks : Machine → Asked → Answer
 asks m Malformed = record { bench = record { machine = m; place = starting }; printed = 63 ∷ 10 ∷ []; number = 0 }
 asks m (Ticks n w) = record {
   bench = record { machine = afterTicks n w m; place = starting };
-  printed = sumsText 5 (each (sumOf n w m));
+  printed = shown (blocksOf n w m) ++ sumsText 5 (each (sumOf n w m));
   number = numberIn n w m;
 }
 

@@ -1,29 +1,29 @@
--- So many ticks with one input word: the machine after them, the sums of the signed pulses, and the number of a waiting
--- start that failed.
+-- So many ticks with one input word: the machine after them, the sums of the signed pulses, the number of a waiting
+-- start that failed, and the block of a W line.
 use Prim.Native.Nat.{ℕ, zero, suc, _≤_, _<_}
 use mathlib.Core.Bool.{cond}
-use mathlib.Core.List.{List, []}
+use mathlib.Core.List.{List, [], _++_}
 use lib.Dec.{eqb}
 use lib.IntN.{ℤ, pos, _+ℤ_, natAbs}
-use lib.ListN.{getD}
+use lib.ListN.{length, getD}
 use mir.Syntax.{w8, w32}
 use mir.Val.{SFits}
 use Rattle.laws.specs.Axes.{each}
 use Rattle.machine.specs.State.{Machine}
 use Rattle.machine.specs.Steps as steps
 use Rattle.machine.specs.Steps.{tickStep}
-use Rattle.machine.specs.Calls.{from, ticks}
+use Rattle.machine.specs.Calls.{from, buffer, ticks}
 use Rattle.controller.specs.Held.{held}
 use Rattle.session.specs.declared.ticks.Ran.{Ran}
 
--- The machine after n ticks with the input word w.
+-- The machine after n ticks with the input word w, each with a reply buffer of 120 bytes.
 abbrev pub afterTicks : ℕ → ℕ → Machine → Machine
 afterTicks n w m = from m (ticks n w [])
 
 -- The sum of the signed pulses of axis k in these ticks.
 unfoldable pub sumOf : ℕ → ℕ → Machine → ℕ → ℤ
 sumOf zero w m k = pos 0
-sumOf (suc n) w m k = sumOf n w m k +ℤ tickStep (afterTicks n w m) w .pulse k
+sumOf (suc n) w m k = sumOf n w m k +ℤ tickStep (afterTicks n w m) w buffer .pulse k
 
 -- The number of the last of these ticks that has one: that of a waiting start that failed. 0 where none has one.
 abbrev pub laterOf : ℕ → ℕ → ℕ
@@ -31,13 +31,19 @@ laterOf before n = cond (eqb n 0) before n
 
 unfoldable pub numberIn : ℕ → ℕ → Machine → ℕ
 numberIn zero w m = 0
-numberIn (suc n) w m = laterOf (numberIn n w m) (tickStep (afterTicks n w m) w .number)
+numberIn (suc n) w m = laterOf (numberIn n w m) (tickStep (afterTicks n w m) w buffer .number)
+
+-- The blocks that these ticks answer. No line comes between them, so that there is one at most.
+unfoldable pub blocksOf : ℕ → ℕ → Machine → List ℕ
+blocksOf zero w m = []
+blocksOf (suc n) w m = blocksOf n w m ++ tickStep (afterTicks n w m) w buffer .reply
 
 abbrev pub ranOf : ℕ → ℕ → Machine → Ran
 ranOf n w m = record {
   controller = held (afterTicks n w m);
   sums = each (sumOf n w m);
   number = numberIn n w m;
+  length = length (blocksOf n w m);
 }
 
 -- ---- One tick more, on what is held
@@ -48,11 +54,12 @@ sumAt sums pulses k = getD sums k (pos 0) +ℤ getD pulses k (pos 0)
 abbrev pub addedOf : List ℤ → List ℤ → List ℤ
 addedOf sums pulses = each (sumAt sums pulses)
 
-abbrev pub tickedOf : List ℤ → ℕ → steps.TickAnswer → Ran
-tickedOf sums before a = record {
+abbrev pub tickedOf : Ran → steps.TickAnswer → Ran
+tickedOf r a = record {
   controller = held (a .machine);
-  sums = addedOf sums (each (a .pulse));
-  number = laterOf before (a .number);
+  sums = addedOf (r .sums) (each (a .pulse));
+  number = laterOf (r .number) (a .number);
+  length = laterOf (r .length) (length (a .reply));
 }
 
 -- Neither a sum, nor a pulse, nor the two added leave their range.

@@ -105,9 +105,11 @@ pub(crate) fn answer(c: Controller, buf: &mut [u8], asked: Asked) -> Taken
     match asked {
         Asked::Malformed => question(c, buf),
         Asked::Ticks { count, word } => {
-            let ran = ticks::run_ticks(c, count, word);
+            let ran = ticks::run_ticks(c, buf, count, word);
+            let at = ran.length as usize;
+            show(buf, at);
             let sums = ran.sums;
-            let length = text::write_sums(buf, sums);
+            let length = text::write_behind(buf, at, sums);
             let controller = ran.controller;
             let sent = Sent {
                 controller,

@@ -5,7 +5,7 @@ ghost use lib.IntN.{natAbs};
 ghost use lib.ListN.{length};
 ghost use Rattle.laws.specs.Axes.{isMinus};
 ghost use Rattle.block.specs.Block.{put};
-ghost use Rattle.session.specs.Text.{decimalOf, signText, itemText, markOf, sumsLength, sumsOver};
+ghost use Rattle.session.specs.Text.{decimalOf, signText, itemText, markOf, sumsText, sumsLength, sumsOver};
 
 // The bytes that five sums need at most: ten digits, a sign and a mark each.
 const ROOM: usize = 60;
@@ -75,7 +75,7 @@ fn write_item(buf: &mut [u8], at: usize, minus: bool, n: u32, k: usize) -> usize
 }
 
 // The line of five sums at the front, and its length: nothing and 0 in a buffer under 60 bytes.
-pub(crate) fn write_sums(buf: &mut [u8], sums: [i32; 5]) -> usize
+fn write_sums(buf: &mut [u8], sums: [i32; 5]) -> usize
     ensures { λ r. ⌜ r ≡ sumsLength sums (now (buf .entry)) ⌝ }
     ensures { λ r. ⌜ now (buf .exit) ≡ sumsOver sums (now (buf .entry)) ⌝ }
 {
@@ -89,4 +89,13 @@ pub(crate) fn write_sums(buf: &mut [u8], sums: [i32; 5]) -> usize
         at = write_item(buf, at, minus, n, k);
     }
     at
+}
+
+// The same behind what stands before the place `at`, and the place after it.
+pub(crate) fn write_behind(buf: &mut [u8], at: usize, sums: [i32; 5]) -> usize
+    requires { ⌜ at + 60 ≤ length (now buf) ⌝ }
+    ensures { λ r. ⌜ r ≡ at + length (sumsText 5 sums) ⌝ }
+    ensures { λ r. ⌜ now (buf .exit) ≡ put at (sumsText 5 sums) (now (buf .entry)) ⌝ }
+{
+    at + write_sums(&mut buf[at..], sums)
 }

@@ -17,6 +17,8 @@ const BYTE: u8 = 1;
 
 const READINGS: u8 = 2;
 
+const TICK: u8 = 3;
+
 // The buffer lent with each byte of a line.
 const LENT: u8 = 120;
 
@@ -134,6 +136,10 @@ pub(crate) fn take(list: List, calls: &mut [u8; ROOM], line: &[u8]) -> List {
     if form::fits(line, b"T hhhhhh hhhhhhhh") {
         let word = form::number(line, 9, 17);
         return gather(list, calls, TICKS, word, form::number(line, 2, 8));
+    }
+    if form::fits(line, b"K hhhhhhhh hh") {
+        let word = form::number(line, 2, 10);
+        return gather(list, calls, TICK, word, form::byte(line, 11) as u32);
     }
     take_other(list, calls, line)
 }

@@ -30,6 +30,7 @@ use Rattle.witness.specs.Witness.{
   passing,
   failing,
   Moved,
+  Finished,
   Stored,
   TurnedAway,
   Witness,
@@ -39,13 +40,20 @@ use Rattle.machine.proofs.FlaggedLaws.{flags-kept}
 moved : Moved
 unfolding
     numberOf judgeOf judgeRow run lastDistance lastMinus lastDwell paused started ends goesOn stopBegun distance minus
-    master counted signed latest begun ordered stopped again finished
+    master counted signed latest begun ordered stopped
 moved = record {
   resting = refl;
   starts = refl;
   orders = refl;
   stops = refl;
   short = refl;
+}
+
+ended : Finished
+unfolding
+    numberOf judgeOf judgeRow run lastDistance lastMinus lastDwell paused started ends goesOn stopBegun distance minus
+    master counted signed latest begun ordered stopped again finished
+ended = record {
   restarts = refl;
   finishes = refl;
   full = refl;
@@ -92,4 +100,4 @@ turned = record {
 }
 
 pub witness : Witness
-witness = record { moved = moved; stored = stored; turnedAway = turned; flagged = flags-kept }
+witness = record { moved = moved; finished = ended; stored = stored; turnedAway = turned; flagged = flags-kept }

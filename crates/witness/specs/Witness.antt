@@ -11,7 +11,7 @@ use lib.IntN.{ℤ, pos, negsuc}
 use Rattle.laws.specs.Axes.{each}
 use Rattle.machine.specs.State.{none, start}
 use Rattle.machine.specs.Steps.{tickStep}
-use Rattle.machine.specs.Calls.{Call, tick, state, line, lines, ticks}
+use Rattle.machine.specs.Calls.{Call, tick, state, buffer, line, lines, ticks}
 use Rattle.machine.specs.Marked.{told}
 use Rattle.machine.specs.Flagged.{Flagged}
 use Rattle.machine.specs.List.{
@@ -106,9 +106,9 @@ figuresOf h = record {
 
 -- The number that a tick after the list answers: that of a waiting start that failed, or 0.
 abbrev pub toldBy : List Call → ℕ
-toldBy h = tickStep (state 0 h) 0 .number
+toldBy h = tickStep (state 0 h) 0 buffer .number
 
--- The first list.
+-- The first list, up to the end of the stopped move.
 pub record Moved : Type 0 where
   -- no start has taken effect before the line that starts, and one has with it
   pub resting : phaseOf prepared ≡ record { started = false; goesOn = false; stopBegun = false; ends = false }
@@ -122,6 +122,9 @@ pub record Moved : Type 0 where
     counted = 3 ∷ 1 ∷ 1 ∷ 0 ∷ 0 ∷ [];
     latest = pos 0 ∷ pos 0 ∷ pos 0 ∷ pos 0 ∷ pos 0 ∷ [];
   }
+
+-- The first list, with its second move.
+pub record Finished : Type 0 where
   -- the same distances started again run to their end, and all three pumps send their last pulse in one tick
   pub restarts : phaseOf again ≡ record { started = true; goesOn = true; stopBegun = false; ends = false }
   pub finishes : phaseOf finished ≡ record { started = true; goesOn = false; stopBegun = false; ends = true }
@@ -144,9 +147,10 @@ pub record Stored : Type 0 where
   pub replaces : paused 0 waiting .waiting ≡ start 1
   pub waits : paused 0 passing .waiting ≡ start 1
   pub before : phaseOf passing ≡ record { started = true; goesOn = false; stopBegun = false; ends = false }
-  pub begins : phaseOf (tick 0 ∷ passing) ≡ record { started = true; goesOn = true; stopBegun = false; ends = false }
-  pub named : master 0 (tick 0 ∷ passing) ≡ 1
-  pub tried : paused 0 (tick 0 ∷ passing) .waiting ≡ none
+  pub begins : phaseOf (tick 0 buffer ∷ passing)
+      ≡ record { started = true; goesOn = true; stopBegun = false; ends = false }
+  pub named : master 0 (tick 0 buffer ∷ passing) ≡ 1
+  pub tried : paused 0 (tick 0 buffer ∷ passing) .waiting ≡ none
   pub passes : toldBy passing ≡ 0
   -- that tick is the first of its move: a move of one pulse ends in the 207th, counted from it
   pub lasts : phaseOf (ticks 207 0 passing) ≡ record { started = true; goesOn = false; stopBegun = false; ends = true }
@@ -159,9 +163,10 @@ pub record Stored : Type 0 where
       ≡ record { started = true; goesOn = true; stopBegun = false; ends = false }
   -- with an axis longer than that master it fails there with 14 and is dropped, and no move begins
   pub fails : toldBy failing ≡ 14
-  pub rests : phaseOf (tick 0 ∷ failing) ≡ record { started = true; goesOn = false; stopBegun = false; ends = false }
-  pub keeps : master 0 (tick 0 ∷ failing) ≡ 2
-  pub dropped : paused 0 (tick 0 ∷ failing) .waiting ≡ none
+  pub rests : phaseOf (tick 0 buffer ∷ failing)
+      ≡ record { started = true; goesOn = false; stopBegun = false; ends = false }
+  pub keeps : master 0 (tick 0 buffer ∷ failing) ≡ 2
+  pub dropped : paused 0 (tick 0 buffer ∷ failing) .waiting ≡ none
 
 -- What a start is answered after some lines, and after a tick.
 abbrev pub answerTo : List Call → ℕ
@@ -171,7 +176,7 @@ answerTo h = told (state 0 h) "Q080" .number
 -- master; master distance 0; an axis blocked; a final position out of range, a pulse after 524,287 more.
 pub record TurnedAway : Type 0 where
   pub running : answerTo begun ≡ 11
-  pub emergency : answerTo (tick 0 ∷ lines ("Q0D01000" ∷ []) prepared) ≡ 12
+  pub emergency : answerTo (tick 0 buffer ∷ lines ("Q0D01000" ∷ []) prepared) ≡ 12
   pub sensor : answerTo (lines ("Q0D02000" ∷ []) prepared) ≡ 13
   pub longer : answerTo (lines ("P0100006" ∷ []) prepared) ≡ 14
   pub resting : answerTo [] ≡ 15
@@ -180,6 +185,7 @@ pub record TurnedAway : Type 0 where
 
 pub record Witness : Type 0 where
   pub moved : Moved
+  pub finished : Finished
   pub stored : Stored
   pub turnedAway : TurnedAway
   pub flagged : Flagged

@@ -59,7 +59,10 @@ impl Machine {
     /// Lines: a whole line is accepted or turned away; the reply and the number, 0 where it is accepted.
     fn whole_line(&mut self, line: &[u8]) -> (Vec<u8>, u8) {
         let (reply, number) = match self.take_line(line) {
-            Ok(read) => (self.accepted_reply(&read), 0),
+            Ok(read) => {
+                self.settle_after(&read, is_silent(line));
+                (self.accepted_reply(&read), 0)
+            }
             Err(number) => (turned_away(self.switch, number, identification(line)), number),
         };
         self.zero_watch_count(number);

@@ -31,8 +31,8 @@ impl Machine {
         block(b's', self.switch, value, identification)
     }
 
-    /// Replies: R with the last tick's inputs.
-    fn inputs_block(&self, identification: Option<u8>) -> Vec<u8> {
+    /// Replies: R with the last tick's inputs, which are those of the tick itself in its own answer.
+    pub(super) fn inputs_block(&self, identification: Option<u8>) -> Vec<u8> {
         block(b'R', self.switch, self.inputs.word, identification)
     }
 
@@ -55,7 +55,7 @@ impl Machine {
         block(b'S', self.switch, number_of(&digits) as u32, identification)
     }
 
-    /// Replies: the reply to an accepted line.
+    /// Replies: the reply to an accepted line; paper 02, 3/14: the block of a W line comes later, in a tick.
     pub(super) fn accepted_reply(&self, read: &ReadLine) -> Vec<u8> {
         let identification = read.identification;
         match read.command {
@@ -71,7 +71,7 @@ impl Machine {
             }
             Command::ReadPosition { axis } => self.position_block(axis, identification),
             Command::ReadEverything => self.everything_blocks(identification),
-            Command::ReadInputs | Command::Outputs(_) => self.inputs_block(identification),
+            Command::ReadInputs | Command::Outputs(_) => Vec::new(),
         }
     }
 }

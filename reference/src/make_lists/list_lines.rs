@@ -68,6 +68,11 @@ impl Text {
         self.plain(&format!("T {count:06X} {word:08X}"));
     }
 
+    /// Stored lists, K: one tick with so many zero bytes lent.
+    pub(super) fn lent_tick(&mut self, word: u32, lent: u8) {
+        self.plain(&format!("K {word:08X} {lent:02X}"));
+    }
+
     /// Stored lists, R: the readings.
     pub(super) fn readings(&mut self) {
         self.plain("R");

@@ -1,6 +1,7 @@
-//! A list of calls followed from its accepted lines and its answers alone: the latest move, positions and entries.
+//! A list of calls followed from its accepted lines and answers alone: the latest move, positions, entries, blocks.
 
 use super::assert_shares;
+use super::settled::Settled;
 use reference::line::read_line;
 use reference::{Command, Entry, Machine, TickAnswer};
 
@@ -9,6 +10,9 @@ const MOVING: u32 = 2;
 
 /// The status bits of stops: by order, limit or watch; emergency held; by sensor.
 const STOPPED: u32 = 0x68;
+
+/// What a lent buffer holds before a tick.
+const KEPT: [u8; 255] = [0xEE; 255];
 
 /// A move: its distances and master, and what the ticks since its start answered.
 #[derive(Clone, Default)]
@@ -56,6 +60,8 @@ pub struct Followed {
     pub starts: u32,
     /// Every move that has ended, with its entry.
     pub ended: Vec<(Move, Entry)>,
+    /// The blocks of W lines.
+    pub settled: Settled,
 }
 
 impl Followed {
@@ -100,6 +106,7 @@ impl Followed {
         let line = std::mem::take(&mut self.line);
         if number == 0 {
             self.accepted(read_line(&line).unwrap().command);
+            self.settled.accepted(&line);
         }
         self.check(machine);
         number
@@ -135,20 +142,17 @@ impl Followed {
         Some(latest.entry())
     }
 
-    /// A tick that is turned away answers no entry.
-    fn refused_tick(&mut self, answer: TickAnswer) {
-        assert_eq!(answer, TickAnswer { pulses: [0; 5], words: [0, 0], number: 3, entry: None });
+    /// A tick that is turned away, by 2 before 3, answers no entry and no block.
+    fn refused_tick(&mut self, answer: TickAnswer, number: u8) {
+        assert_eq!(answer, TickAnswer { pulses: [0; 5], words: [0, 0], number, entry: None, len: 0 });
         if let Some(latest) = self.latest.as_mut().filter(|_| self.moving) {
             latest.refused_ticks += 1;
         }
     }
 
-    /// One tick.
-    pub fn tick(&mut self, machine: &mut Machine, word: u32) {
-        let answer = machine.tick(word);
-        if word >= 0x0100_0000 {
-            return self.refused_tick(answer);
-        }
+    /// What an accepted tick answered: the dwell, positions, the move and its entry.
+    fn accepted_tick(&mut self, machine: &Machine, answer: TickAnswer) {
+        assert!(answer.number == 0 || answer.entry.is_none());
         self.count_dwell(answer.number);
         for (position, pulse) in self.positions.iter_mut().zip(answer.pulses) {
             *position += pulse as i32;
@@ -156,6 +160,18 @@ impl Followed {
         let entry = if self.moving { self.move_tick(answer.pulses, machine.status()) } else { None };
         assert_eq!(answer.entry, entry);
         self.check(machine);
+    }
+
+    /// One tick with so many bytes lent, at most 255; those behind its block keep their values.
+    pub fn tick(&mut self, machine: &mut Machine, word: u32, lent: usize) {
+        let mut whole = KEPT;
+        let answer = machine.tick(word, &mut whole[..lent]);
+        assert_eq!(whole[answer.len..], KEPT[answer.len..]);
+        if lent < 120 || word >= 0x0100_0000 {
+            return self.refused_tick(answer, if lent < 120 { 2 } else { 3 });
+        }
+        assert_eq!(self.settled.ticked(machine.switch(), word), whole[..answer.len]);
+        self.accepted_tick(machine, answer);
     }
 
     /// Status, travels, shares and positions are those that were followed.

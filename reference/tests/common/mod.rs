@@ -2,15 +2,17 @@
 
 #![allow(dead_code)]
 
+pub mod blocks;
 pub mod followed;
 pub mod programs;
 pub mod refused;
 pub mod sequence;
+pub mod settled;
 pub mod stopped;
 pub mod stored_lists;
 pub mod vectors;
 
-use reference::{front, Machine};
+use reference::{front, Machine, TickAnswer};
 
 /// A controller of switch 0.
 pub fn on() -> Machine {
@@ -55,11 +57,16 @@ pub fn accept(machine: &mut Machine, texts: &[&str]) {
     }
 }
 
+/// One tick with 120 bytes lent; the block of a W line is not looked at.
+pub fn one_tick(machine: &mut Machine, word: u32) -> TickAnswer {
+    machine.tick(word, &mut [0; 120])
+}
+
 /// n ticks with one word; the sums of the signed pulses; no waiting start may fail.
 pub fn ticks(machine: &mut Machine, n: u32, word: u32) -> [i64; 5] {
     let mut sums = [0; 5];
     for _ in 0..n {
-        let answer = machine.tick(word);
+        let answer = one_tick(machine, word);
         assert_eq!(answer.number, 0);
         for (sum, pulse) in sums.iter_mut().zip(answer.pulses) {
             *sum += pulse as i64;
@@ -78,7 +85,7 @@ pub fn status_after(machine: &mut Machine, n: u32, word: u32) -> u32 {
 pub fn until_rest(machine: &mut Machine, word: u32) -> u32 {
     let mut count = 0;
     while machine.status() & 2 != 0 {
-        assert_eq!(machine.tick(word).number, 0);
+        assert_eq!(one_tick(machine, word).number, 0);
         count += 1;
         assert!(count < 50_000_000);
     }

@@ -1,11 +1,11 @@
 //! Lines that are turned away.
 
-use super::{accept, line};
+use super::{accept, line, one_tick};
 use reference::Machine;
 
 /// The line must be turned away with this number and alter nothing; from 10 on it zeroes the watch count.
 pub fn refused(machine: &mut Machine, characters: &[u8], wanted: u8) -> String {
-    machine.tick(0);
+    one_tick(machine, 0);
     let mut expected = machine.clone();
     let (reply, number) = line(machine, characters);
     assert_eq!(number, wanted, "{}", String::from_utf8_lossy(characters));

@@ -27,9 +27,16 @@ fn start_master(sequence: &mut Sequence, next_distances: [u32; 5]) -> u64 {
     }
 }
 
+/// A W line, most often accepted and not silent.
+fn drawn_w(sequence: &mut Sequence) -> String {
+    let second = if sequence.below(5) == 0 { 4 } else { 0 };
+    let digits = ["", "", "A5A5A5", "0FF0ff7", "000000F", "1"][sequence.below(6) as usize];
+    format!("W{second}{digits}")
+}
+
 /// A line that is often a command, without its 0D.
 pub fn drawn_line(sequence: &mut Sequence, next_distances: [u32; 5]) -> Vec<u8> {
-    let text = match sequence.below(30) {
+    let text = match sequence.below(34) {
         0..=5 => {
             let end = [3, 40, 300, 300, 300, 524_288][sequence.below(6) as usize];
             format!("P0{}{:05X}", sequence.below(5), sequence.below(end) | (sequence.below(2) << 19))
@@ -45,6 +52,7 @@ pub fn drawn_line(sequence: &mut Sequence, next_distances: [u32; 5]) -> Vec<u8> 
         26 => format!("Q0D{:05X}", 0x33FF & (1 << sequence.below(20))),
         27 => format!("Q0E{:05X}", 0x33FF & (1 << sequence.below(20))),
         28 => "q08".to_string(),
+        29..=32 => drawn_w(sequence),
         _ => return (0..sequence.below(12)).map(|_| (sequence.below(255) as u8).max(14)).collect(),
     };
     text.into_bytes()

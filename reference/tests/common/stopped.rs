@@ -1,6 +1,6 @@
 //! Moves of 1,000 pulses plus on axis 0 and 400 minus on axis 1 that are stopped short.
 
-use super::{accept, assert_shares, on, status_after, until_rest};
+use super::{accept, assert_shares, on, one_tick, status_after, until_rest};
 use reference::Machine;
 
 /// The distances of the move.
@@ -19,7 +19,7 @@ pub fn stopped_short(machine: &Machine) {
 pub fn stop_by_inputs(setting: &str, free: u32, stopping: u32, bits_under_way: u32, bits_at_rest: u32) -> Machine {
     let mut machine = on();
     accept(&mut machine, &["P00003E8", "P0180190", "P08F4240", "P0900FFF"]);
-    machine.tick(free);
+    one_tick(&mut machine, free);
     accept(&mut machine, &[setting, "Q080"]);
     assert_eq!(status_after(&mut machine, 500, free), 3);
     assert_eq!(status_after(&mut machine, 1, stopping), bits_under_way);

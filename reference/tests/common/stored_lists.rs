@@ -1,5 +1,6 @@
 //! The stored lists, each with the heading that it stands under.
 
+use super::followed::Followed;
 use reference::lists::{Call, List};
 use reference::make_lists::lists_text;
 use reference::{Machine, TickAnswer};
@@ -40,8 +41,26 @@ pub fn played(list: &List, mut ticked: impl FnMut(TickAnswer), mut read: impl Fn
             Call::Byte { byte, lent } => {
                 machine.byte(byte, &mut vec![0; lent as usize]);
             }
-            Call::Ticks { count, word } => (0..count).for_each(|_| ticked(machine.tick(word))),
+            Call::Ticks { count, word } => (0..count).for_each(|_| ticked(machine.tick(word, &mut [0; 120]))),
+            Call::Tick { word, lent } => ticked(machine.tick(word, &mut vec![0; lent as usize])),
             Call::Readings => read(&machine),
         }
     }
+}
+
+/// A list goes to a controller of its first switch and is followed from its answers.
+pub fn followed(list: &List) -> Followed {
+    let mut machine = Machine::power_on(list.first).0;
+    let mut followed = Followed::default();
+    for &call in &list.calls {
+        match call {
+            Call::Byte { byte, lent } => {
+                followed.byte(&mut machine, byte, lent as usize);
+            }
+            Call::Ticks { count, word } => (0..count).for_each(|_| followed.tick(&mut machine, word, 120)),
+            Call::Tick { word, lent } => followed.tick(&mut machine, word, lent as usize),
+            Call::Readings => {}
+        }
+    }
+    followed
 }

@@ -5,13 +5,17 @@ use mathlib.Core.Path.{_≡_, sym, _∙_}
 use Rattle.machine.specs.Demand.{Demand3}
 use Rattle.machine.specs.Journal.{Journal}
 use Rattle.machine.specs.Marked.{Marked}
+use Rattle.machine.specs.Settle.{Settles}
 use Rattle.machine.specs.Watch.{Watch}
 use Rattle.machine.proofs.DemandLaws.{demand-3}
 use Rattle.machine.proofs.MarkedLaws.{marked}
+use Rattle.machine.proofs.SettleLaws.{settled}
 use Rattle.machine.proofs.TakenLaws.{journal-is}
 use Rattle.machine.proofs.WatchLaws.{watched}
+use Rattle.witness.specs.Blocks.{BlockWitness}
 use Rattle.witness.specs.Entries.{EntryWitness}
 use Rattle.witness.specs.Witness.{Witness}
+use Rattle.witness.proofs.BlockWitnessLaws.{blocks-answered}
 use Rattle.witness.proofs.EntryWitnessLaws.{entries}
 use Rattle.witness.proofs.WitnessLaws.{witness}
 use Rattle.controller.specs.declared.state.PowerOn.{PowerOn}
@@ -19,10 +23,12 @@ use Rattle.controller.specs.Held.{heldPower}
 use Rattle.controller.specs.Reach.{Reachable}
 use Rattle.controller.specs.Answers.{Demand3Answers}
 use Rattle.controller.specs.Journal.{JournalAnswers}
+use Rattle.controller.specs.Settle.{SettlesAnswers}
 use Rattle.controller.proofs.EntryPowerLaws.{power-bad, power-good}
 use Rattle.controller.proofs.ReachLaws.{reach-power}
 use Rattle.controller.proofs.AnswerLaws.{demand-3-answers}
 use Rattle.controller.proofs.JournalAnswerLaws.{journal-answers}
+use Rattle.controller.proofs.SettleAnswerLaws.{settles-answers}
 use Rattle.controller.proofs.power_on.Statement.{statement}
 use Rattle.controller.proofs.power_on.Tie as tie
 
@@ -32,14 +38,21 @@ powered : (s : ℕ) (r : PowerOn) → r ≡ heldPower s
     × (Demand3
     × (Marked
     × (Witness
-    × (Demand3Answers × (Journal × (JournalAnswers × (EntryWitness × (Watch × Reachable (r .controller)))))))))
+    × (Demand3Answers
+    × (Journal
+    × (JournalAnswers
+    × (EntryWitness
+    × (Watch × (Settles × (SettlesAnswers × (BlockWitness × Reachable (r .controller))))))))))))
 powered s r e = (
   e,
   (
     demand-3,
-    (marked, (witness, (demand-3-answers, (journal-is, (journal-answers, (entries, (watched, reach-power s r e))))))),
+    (marked, (witness, (demand-3-answers, (journal-is, (journal-answers, (entries, (watched, settling))))))),
   ),
 )
+  where
+    settling : Settles × (SettlesAnswers × (BlockWitness × Reachable (r .controller)))
+    settling = (settled, (settles-answers, (blocks-answered, reach-power s r e)))
 
 is-bad-requires : tie.Need-is-bad-requires
 is-bad-requires c κs = search needs

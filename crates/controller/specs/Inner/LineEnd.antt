@@ -12,6 +12,7 @@ use Rattle.reply.specs.Reply.{toldBy, replyOf, refusalOf}
 use Rattle.controller.specs.declared.state.Controller.{Controller}
 use Rattle.controller.specs.declared.state.ByteAnswer.{ByteAnswer}
 use Rattle.controller.specs.Inner.Orders.{doesOf, zeroWatchOf}
+use Rattle.controller.specs.Inner.Settle.{awaitsOf}
 use Rattle.controller.specs.Inner.Numbers.{numberOf, turnedOf}
 use Rattle.controller.specs.Inner.Status.{readingsOf}
 
@@ -31,7 +32,7 @@ tellReply c silent ident command digits = cond silent [] (replyOf (toldBy (readi
 -- A line accepted.
 abbrev pub obeyOf : Controller → Bool → Ident → Command → ℕ → ByteAnswer
 obeyOf c silent ident command digits = record {
-  controller = zeroWatchOf (doesOf c command);
+  controller = awaitsOf (zeroWatchOf (doesOf c command)) command silent ident;
   length = length (tellReply c silent ident command digits);
   number = 0;
 }

@@ -58,9 +58,10 @@ runOf length gone speed phase master moving stopping ticks rounds = record {
   rounds = rounds;
 }
 
--- The ticks of the dwell that are left, and the waiting start: 0, or its master and 1.
-abbrev pub pauseOf : ℕ → ℕ → Pause
-pauseOf left waiting = record { left = left; waiting = waiting }
+-- The ticks of the dwell that are left, and the waiting start: 0, or its master and 1; the ticks until a W line's
+-- block.
+abbrev pub pauseOf : ℕ → ℕ → ℕ → Pause
+pauseOf left waiting block = record { left = left; waiting = waiting; block = block }
 
 -- Hot by its parts, in the order of the code.
 abbrev pub hotOf : Plan → Counters → Run → Wires → Pause → ℕ → ℕ → Flags → Hot
@@ -75,10 +76,13 @@ hotOf plan counters run wires pause inputs watch flags = record {
   flags = flags;
 }
 
--- A controller by its parts: hot, settings, the next move's plan, the characters received, the switch.
-abbrev pub controllerOf : Hot → Settings → Plan → Receiver → ℕ → Controller
-controllerOf hot settings next line switch =
-    record { hot = hot; cold = record { settings = settings; next = next; line = line; switch = switch } }
+-- A controller by its parts: hot, settings, the next move's plan, the characters received, the switch, the
+-- identification of the latest W line.
+abbrev pub controllerOf : Hot → Settings → Plan → Receiver → ℕ → ℕ → Bool → Controller
+controllerOf hot settings next line switch ident named = record {
+  hot = hot;
+  cold = record { settings = settings; next = next; line = line; switch = switch; ident = ident; named = named };
+}
 
 -- ---- Hot with one part replaced, all others as they are
 
@@ -108,8 +112,14 @@ withWires h general cells =
 -- The dwell: the ticks left, and the start that waits.
 abbrev pub withPause : Hot → ℕ → ℕ → Hot
 withPause h left waiting =
-    hotOf (h .plan) (h .counters) (h .run) (h .wires) (pauseOf left waiting) (h .inputs) (h .watch)
-    (h .flags)
+    hotOf (h .plan) (h .counters) (h .run) (h .wires) (pauseOf left waiting (h .pause .block)) (h .inputs)
+    (h .watch) (h .flags)
+
+-- The ticks until the block of a W line.
+abbrev pub withBlock : Hot → ℕ → Hot
+withBlock h x =
+    hotOf (h .plan) (h .counters) (h .run) (h .wires) (pauseOf (h .pause .left) (h .pause .waiting) x) (h .inputs)
+    (h .watch) (h .flags)
 
 -- The last tick's input word.
 abbrev pub withInputs : Hot → ℕ → Hot
@@ -137,10 +147,17 @@ withHot c h = record { hot = h; cold = c .cold }
 abbrev pub withSetting : Controller → ℕ → ℕ → Controller
 withSetting c code v =
     controllerOf (c .hot) (put (c .cold .settings) code v) (c .cold .next) (c .cold .line) (c .cold .switch)
+    (c .cold .ident) (c .cold .named)
 
 -- The next move's distances and directions.
 abbrev pub withNext : Controller → Plan → Controller
-withNext c x = controllerOf (c .hot) (c .cold .settings) x (c .cold .line) (c .cold .switch)
+withNext c x =
+    controllerOf (c .hot) (c .cold .settings) x (c .cold .line) (c .cold .switch) (c .cold .ident) (c .cold .named)
+
+-- The identification of the latest W line, and whether it has one.
+abbrev pub withIdent : Controller → ℕ → Bool → Controller
+withIdent c ident named =
+    controllerOf (c .hot) (c .cold .settings) (c .cold .next) (c .cold .line) (c .cold .switch) ident named
 
 -- ---- What is read of them
 

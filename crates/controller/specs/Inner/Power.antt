@@ -1,12 +1,10 @@
--- What power-on makes, the characters received, and a tick turned away: src/power.rt and src/lib.rt on held values.
+-- What power-on makes, and the characters received: src/power.rt and src/lib.rt on held values.
 use Prim.Native.Nat.{ℕ}
 use mathlib.Core.Bool.{Bool, false, _||_}
 use mathlib.Core.List.{[]}
 use lib.Dec.{ltb, eqb}
 use Rattle.laws.specs.Axes.{each}
-use lib.IntN.{pos}
 use Rattle.digits.specs.Digits.{topBit}
-use Rattle.journal.specs.Journal.{zeroEntry}
 use Rattle.outputs.specs.declared.Cells.{Cells}
 use Rattle.outputs.specs.Outputs.{generalOf}
 use Rattle.receiver.specs.declared.Receiver.{Receiver}
@@ -16,7 +14,6 @@ use Rattle.controller.specs.declared.state.Hot.{Hot}
 use Rattle.controller.specs.declared.state.Plan.{Plan}
 use Rattle.controller.specs.declared.state.Run.{Run}
 use Rattle.controller.specs.declared.state.Settings.{Settings}
-use Rattle.controller.specs.declared.state.TickAnswer.{TickAnswer}
 use Rattle.controller.specs.Inner.Parts.{runOf, pauseOf, hotOf, controllerOf, cellsOf}
 
 -- There is no such switch.
@@ -43,7 +40,7 @@ freshHotGiven plan run general cells =
       remainders = each (λ k. 0);
       positions = each (λ k. record { 0 = topBit });
     })
-    run (record { general = general; cells = cells }) (pauseOf 0 0) 0 0
+    run (record { general = general; cells = cells }) (pauseOf 0 0 0) 0 0
     (record { wrong = false; stopped = false; emergency = false; sensed = false })
 
 -- What a tick alters, with this plan.
@@ -52,20 +49,9 @@ freshHotOf switch plan = freshHotGiven plan freshRunOf (generalOf switch 0) (cel
 
 -- The controller at power-on.
 abbrev pub freshOf : ℕ → Controller
-freshOf switch = controllerOf (freshHotOf switch freshPlan) freshSettingsOf freshPlan (holding []) switch
+freshOf switch = controllerOf (freshHotOf switch freshPlan) freshSettingsOf freshPlan (holding []) switch 0 false
 
 -- The controller with the characters received so far.
 abbrev pub withLineOf : Controller → Receiver → Controller
-withLineOf c line = controllerOf (c .hot) (c .cold .settings) (c .cold .next) line (c .cold .switch)
-
--- A tick that is turned away.
-abbrev pub refusedOf : Controller → TickAnswer
-refusedOf c = record {
-  controller = c;
-  first = 0;
-  second = 0;
-  pulses = each (λ k. pos 0);
-  number = 3;
-  ended = false;
-  entry = zeroEntry;
-}
+withLineOf c line =
+    controllerOf (c .hot) (c .cold .settings) (c .cold .next) line (c .cold .switch) (c .cold .ident) (c .cold .named)

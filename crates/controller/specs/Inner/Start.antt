@@ -1,7 +1,6 @@
 -- A start, and what turns it away: src/start.rt on held values.
 use Prim.Native.Nat.{ℕ, _+_, _≤_, _<_}
 use mathlib.Core.Bool.{Bool, true, false, cond}
-use mathlib.Core.List.{List}
 use lib.Dec.{ltb, eqb}
 use lib.ListN.{getD}
 use Rattle.laws.specs.Axes.{each, some}
@@ -60,7 +59,7 @@ begunGiven next h master cells =
       positions = h .counters .positions;
     })
     (runOf (getD (next .distances) master 0) 0 0 0 master true false 0 0)
-    (record { general = h .wires .general; cells = cells }) (pauseOf 0 0) (h .inputs) (h .watch)
+    (record { general = h .wires .general; cells = cells }) (pauseOf 0 0 (h .pause .block)) (h .inputs) (h .watch)
     (mark (mark (h .flags) 3 false) 6 false)
 
 -- A move begins: travels and remainders 0, bits 3 and 6 cleared, no dwell, no waiting start.

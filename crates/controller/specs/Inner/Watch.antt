@@ -1,5 +1,5 @@
 -- A tick's first stages and its stop causes: src/watch.rt on held values.
-use Prim.Native.Nat.{ℕ, _+_, _/_, _%_, min}
+use Prim.Native.Nat.{ℕ, _+_, _-_, _/_, _%_, min}
 use mathlib.Core.Bool.{Bool, false, cond, not, _&&_, _||_}
 use lib.Dec.{leb, eqb}
 use lib.Bits.{bitAnd}
@@ -13,6 +13,7 @@ use Rattle.controller.specs.Inner.Parts.{
   withStopping,
   withWires,
   withInputs,
+  withBlock,
   withWatch,
   withFlag,
   blockedIn,
@@ -26,16 +27,19 @@ raisedOf watch = min watchMost (watch + 1)
 abbrev pub isFullOf : ℕ → ℕ → Bool
 isFullOf watch setting = leb watchMost watch && eqb (setting % 2) 1
 
--- By the watch count, whether emergency is held, and whether the general outputs are cleared.
-abbrev pub takesGiven : Hot → ℕ → ℕ → Bool → Bool → Hot
-takesGiven h word watch emergency clears =
-    withWires (withFlag (withWatch (withInputs h word) watch) 5 emergency) (cond clears 0 (h .wires .general))
-    (h .wires .cells)
+-- By the ticks until a W line's block, the watch count, whether emergency is held, and whether the general outputs are
+-- cleared.
+abbrev pub takesGiven : Hot → ℕ → ℕ → ℕ → Bool → Bool → Hot
+takesGiven h word block watch emergency clears =
+    withWires (withFlag (withWatch (withBlock (withInputs h word) block) watch) 5 emergency)
+    (cond clears 0 (h .wires .general)) (h .wires .cells)
 
--- Inputs taken, the watch count raised, an active emergency held, the general outputs cleared at a full count.
+-- Inputs taken, one tick counted for a W line, the watch count raised, an active emergency held, the general outputs
+-- cleared at a full count.
 abbrev pub takesOf : Settings → Hot → ℕ → Hot
 takesOf s h word =
-    takesGiven h word (raisedOf (h .watch)) (h .flags .emergency || activeAt (s .low) (s .high) word 12)
+    takesGiven h word (h .pause .block - 1) (raisedOf (h .watch))
+    (h .flags .emergency || activeAt (s .low) (s .high) word 12)
     (isFullOf (raisedOf (h .watch)) (s .watch / 2))
 
 -- No limit input is active, by the words alone.

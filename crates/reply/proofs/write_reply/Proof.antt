@@ -1,9 +1,9 @@
--- The reply by the two cases of the answer: one block, or twelve. Assumes nothing.
+-- The reply by the three cases of the answer: one block, twelve, or none. Assumes nothing.
 use borrow.Author.Needs.{needs}
 use mathlib.Core.Path.{sym, _∙_}
 use denote.Ref.{now}
 use Rattle.reply.specs.Reply.{toldBy}
-use Rattle.reply.proofs.Replies.{written, one-block, twelve-blocks}
+use Rattle.reply.proofs.Replies.{written, nothing-laid, one-block, twelve-blocks, no-block}
 use Rattle.reply.proofs.write_reply.Statement.{statement}
 use Rattle.reply.proofs.write_reply.Tie as tie
 
@@ -24,6 +24,9 @@ all-numbers-requires c κs = search needs
 
 write-twelve-requires : tie.Need-write-twelve-requires
 write-twelve-requires c κs = search needs
+
+enum-told-2 : tie.Need-enum-told-2
+enum-told-2 c = search needs
 
 same-length : tie.Need-same-length
 same-length c = search needs
@@ -54,6 +57,15 @@ returns-2 c =
     (sym (m .enum-told .given .1) ∙ r .ensures))
     (w .ensures .0) (w .ensures .1)
 
+returns-3 : tie.Need-returns-3
+returns-3 c =
+    let r = c .before .before .answer-to in
+    let a = c .before .before .before .before .args in
+    let n = nothing-laid (now (a .buf)) in
+    written (now (a .buf))
+    (no-block (toldBy (a .readings)) (a .command) (a .digits) (a .ident) (sym (c .enum-told2 .given .1) ∙ r .ensures))
+    (n .0) (n .1)
+
 pub write-reply-spec : {M : Type 1} → statement M
 write-reply-spec =
     tie.close
@@ -64,7 +76,9 @@ write-reply-spec =
     enum-told
     all-numbers-requires
     write-twelve-requires
+    enum-told-2
     same-length
     returns
     same-length-2
-    returns-2)
+    returns-2
+    returns-3)

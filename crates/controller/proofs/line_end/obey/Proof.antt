@@ -2,6 +2,7 @@
 use borrow.Author.Needs.{needs}
 use mathlib.Core.Path.{ap, _∙_}
 use Rattle.controller.specs.Inner.Orders.{zeroWatchOf}
+use Rattle.controller.specs.Inner.Settle.{awaitsOf}
 use Rattle.controller.proofs.line_end.obey.Statement.{statement}
 use Rattle.controller.proofs.line_end.obey.Tie as tie
 
@@ -14,14 +15,21 @@ does-requires c κs = search needs
 zero-watch-requires : tie.Need-zero-watch-requires
 zero-watch-requires c κs = search needs
 
+awaits-requires : tie.Need-awaits-requires
+awaits-requires c κs = search needs
+
 same-length : tie.Need-same-length
 same-length c = search needs
 
 returns : tie.Need-returns
 returns c =
-    let t = c .before .before .before .before .tell in (
+    let z = c .before in
+    let q = z .before .before .before .before .before .before .before .args in
+    let t = z .before .before .before .before .tell in (
       (λ i. record {
-        controller = (c .zero-watch .ensures ∙ ap zeroWatchOf (c .before .does .ensures)) i;
+        controller = (c .awaits .ensures
+            ∙ ap (λ x. awaitsOf x (q .command) (q .silent) (q .ident))
+            (z .zero-watch .ensures ∙ ap zeroWatchOf (z .before .does .ensures))) i;
         length = t .ensures .0 i;
         number = 0;
       }),
@@ -30,4 +38,4 @@ returns c =
 
 pub obey-spec : {M : Type 1} → statement M
 obey-spec =
-    tie.close (tie.spec tell-requires does-requires zero-watch-requires same-length returns)
+    tie.close (tie.spec tell-requires does-requires zero-watch-requires awaits-requires same-length returns)

@@ -11,6 +11,7 @@ returns : tie.Need-returns
 returns c =
     let a = c .before .before .before .args in
     λ i. controllerOf (a .c .hot) (c .before .put .ensures i) (a .c .cold .next) (a .c .cold .line) (a .c .cold .switch)
+    (a .c .cold .ident) (a .c .cold .named)
 
 pub store-spec : {M : Type 1} → statement M
 store-spec = tie.close (tie.spec put-requires returns)

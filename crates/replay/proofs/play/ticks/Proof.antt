@@ -1,53 +1,28 @@
--- So many ticks. The invariant: the controller and the digest are those of the ticks so far, after every list of calls
--- that leaves the first controller. The measure is the ticks left. Assumes nothing.
-use Prim.Native.Nat.{_-_, _≤_}
-use native.Mathlib.Omega.{arith}
-use mathlib.Core.Path.{_≡_, ap, _∙_}
-use Rattle.controller.specs.Reach.{Reachable}
-use Rattle.replay.specs.Replay.{seen, heldSeen, ticks}
-use Rattle.replay.proofs.PlayLaws.{Ticking, tick-none, tick-reach, tick-next}
+-- The front part of 255 zeros is so many zeros. Assumes nothing.
+use borrow.Author.Needs.{needs}
+use mathlib.Core.Path.{sym, ap, _∙_}
+use Rattle.replay.specs.Replay.{seen, heldSeen, lentTicks}
+use Rattle.replay.proofs.AnswerLaws.{take-zeros, zeros-length}
 use Rattle.replay.proofs.play.ticks.Statement.{statement}
 use Rattle.replay.proofs.play.ticks.Tie as tie
 
-abbrev Inv-loop : tie.InvT-loop
-Inv-loop word count played₀ i₀ played i =
-    (i ≤ count) × Reachable (played₀ .controller) × Ticking word played₀ i played
+array-borrow-prefix-buf : tie.Need-array-borrow-prefix-buf
+array-borrow-prefix-buf c = search needs
 
-abbrev μ-loop : tie.MeasureT-loop
-μ-loop word count played₀ i₀ played i = count - i
+slice-aggregate-lend-ticks : tie.Need-slice-aggregate-lend-ticks
+slice-aggregate-lend-ticks c = sym (zeros-length _ (c .before .pre .1))
 
-loop-holds : tie.Need-loop-holds Inv-loop μ-loop
-loop-holds c = (omega arith, c .pre, tick-none (c .args .word) (c .args .was))
+lend-ticks-requires : tie.Need-lend-ticks-requires
+lend-ticks-requires c κs = c .before .pre .0
 
-tick-requires : tie.Need-tick-requires Inv-loop μ-loop
-tick-requires c κs =
-    let s = c .before .before in
-    let l = c .before .loop in
-    tick-reach (s .args .word) (s .args .was) (l .i) (l .played) (l .inv .1) (l .inv .2)
-
-add-i : tie.Need-add-i Inv-loop μ-loop
-add-i c = omega arith
-
-loop-less : tie.Need-loop-less Inv-loop μ-loop
-loop-less c = omega arith
-
-loop-again : tie.Need-loop-again Inv-loop μ-loop
-loop-again c =
-    let s = c .before .before .before in
-    let l = c .before .before .loop in (
-      omega arith,
-      l .inv .1,
-      tick-next (s .args .word) (s .args .was) (l .i) (l .played) (c .tick .result) (l .inv .2) (c .tick .ensures),
-    )
-
-returns : tie.Need-returns Inv-loop μ-loop
+returns : tie.Need-returns
 returns c =
-    let s = c .before .before in
-    let l = c .before .loop in
-    let n : l .i ≡ s .args .count = omega arith in
-    λ w h e. l .inv .2 w h e ∙ ap (λ k. heldSeen w (ticks w k (s .args .word) (seen h (s .args .was .digest)))) n
+    let l = c .before .before .before in
+    let a = l .args in
+    λ s h e. c .before .lend-ticks .ensures s h e
+    ∙ ap (λ d. heldSeen s (lentTicks s (a .count) (a .word) d (a .whole) (seen h (a .was .digest))))
+    (take-zeros (a .room) 255 (l .pre .1))
 
 pub ticks-spec : {M : Type 1} → statement M
 ticks-spec =
-    tie.close
-    (tie.spec Inv-loop μ-loop loop-holds tick-requires add-i loop-less loop-again returns)
+    tie.close (tie.spec array-borrow-prefix-buf slice-aggregate-lend-ticks lend-ticks-requires returns)

@@ -1,0 +1,13 @@
+-- By the two kinds. Assumes nothing.
+use borrow.Author.Tests.{eq-eqb, ne-eqb}
+use Rattle.replay.proofs.is_ticks.Statement.{statement}
+use Rattle.replay.proofs.is_ticks.Tie as tie
+
+returns : tie.Need-returns
+returns c = rw (eq-eqb _ _ (c .if1 .taken))
+
+returns-2 : tie.Need-returns-2
+returns-2 c = rw (ne-eqb _ _ (c .if1 .left))
+
+pub is-ticks-spec : {M : Type 1} → statement M
+is-ticks-spec = tie.close (tie.spec returns returns-2)
