@@ -141,7 +141,7 @@ impl Observed {
         }
         self.follow_causes(if started { before & HELD } else { before });
         if let Some(entry) = entry {
-            self.seen.moves.end(entry.cause, self.stop_begun);
+            self.seen.moves.end(&entry, self.stop_begun);
         }
     }
 

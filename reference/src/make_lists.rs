@@ -6,6 +6,7 @@ mod emergency;
 mod entries;
 mod extremes;
 mod failing_starts;
+mod largest_sums;
 mod limits;
 mod line_forms;
 mod list_lines;
@@ -54,6 +55,7 @@ pub fn lists_text() -> String {
     silence::silence(&mut text);
     entries::entries(&mut text);
     settle::settle(&mut text);
+    largest_sums::largest_sums(&mut text);
     drawn::drawn_lists(&mut text);
     other_forms::other_forms(&mut text);
     text.ended()

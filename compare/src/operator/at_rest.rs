@@ -47,6 +47,7 @@ impl Operator {
             59 if self.time_for_silence(bench) => self.stored_past_watch(bench),
             60..=61 => self.settle(bench),
             62 => self.settle_in_dwell(bench),
+            63 if self.time_for_longest(bench) => self.longest_move(bench),
             _ => self.start_move(bench),
         }
         self.run_some(bench, 20);

@@ -2,8 +2,12 @@
 
 use super::{any_axis, Operator, AXES};
 use crate::bench::Bench;
+use crate::bits::MOVING;
 use crate::line;
-use reference::command::LONGEST;
+use reference::command::{FASTEST, LONGEST, STEEPEST};
+
+/// More ticks than the longest move takes at the greatest speed and slope.
+const LONGEST_MOVE: u32 = 540_000;
 
 impl Operator {
     /// The master's distance: of the operator's usual size, or of any.
@@ -73,6 +77,31 @@ impl Operator {
         let (plain, master) = (self.random.chance(75), self.master);
         self.order(bench, if plain { line::start(master) } else { line::start_after_dwell(master) });
         self.make_up_mind();
+    }
+
+    pub(super) fn time_for_longest<B: Bench>(&self, bench: &B) -> bool {
+        bench.ticks_left() > LONGEST_MOVE
+    }
+
+    /// The longest move to its end, other axes level with the master, just short of it or crooked: a remainder and a
+    /// distance together then come to the most that moves meet (paper 02, 4/14).
+    pub(super) fn longest_move<B: Bench>(&mut self, bench: &mut B) {
+        self.master = any_axis(&mut self.random);
+        self.order(bench, line::reset_positions());
+        for axis in 0..AXES {
+            let crooked = self.random.below(LONGEST);
+            let short = self.random.pick(&[0, 1, 1, 2, crooked]);
+            let distance = if axis == self.master { LONGEST } else { LONGEST - short };
+            let minus = self.random.chance(50);
+            self.order(bench, line::distance(axis, minus, distance));
+        }
+        self.order(bench, line::speed(FASTEST));
+        self.order(bench, line::slope(STEEPEST));
+        self.run_calm(bench, 1);
+        self.order(bench, line::start(self.master));
+        while bench.machine().status() & MOVING != 0 && bench.ticks_left() > 0 {
+            self.run_some(bench, LONGEST_MOVE);
+        }
     }
 
     /// A start towards a position out of range: an axis goes on for the longest distance.

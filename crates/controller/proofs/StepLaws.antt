@@ -40,6 +40,10 @@ use Rattle.controller.specs.Inner.Motion.{
 use Rattle.controller.specs.Inner.Words.{wordOf}
 use Rattle.controller.specs.Inner.Ramp.{ticksOf, rampOf, standsOf, advanceOf, paceGiven, paceOf}
 
+-- A remainder and a distance together never exceed 1,048,573 (paper 02, 4/14), so 32 bits hold the step's sum.
+pub share-sum : (r d M : ℕ) → r < M → d ≤ M → M ≤ 524287 → r + d ≤ 1048573
+share-sum r d M h k l = omega arith
+
 pub mod-once : (n m : ℕ) → m ≤ n → n < m + m → n - m ≡ n % m
 mod-once n m h k =
     let l : n - m < m = omega arith in

@@ -29,7 +29,8 @@ pub struct Share {
     pub on: bool,
 }
 
-// The share step: the remainder grows by the distance and gives up a whole length as a pulse.
+// The share step: the remainder grows by the distance and gives up a whole length as a pulse. Remainder
+// and distance together never exceed 1,048,573, so 32 bits hold the sum (paper 02, 4/14).
 fn share_step(remainder: u32, distance: u32, length: u32) -> Share
     requires { ⌜ (remainder < length) × (distance ≤ length) × (length ≤ 524287) ⌝ }
     ensures { λ r. ⌜ r ≡ shareStepOf remainder distance length ⌝ }

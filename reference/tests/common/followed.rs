@@ -27,7 +27,7 @@ pub struct Move {
 }
 
 impl Move {
-    fn travels(&self) -> [u32; 5] {
+    pub fn travels(&self) -> [u32; 5] {
         self.signed_pulses.map(i32::unsigned_abs)
     }
 
@@ -55,7 +55,7 @@ pub struct Followed {
     dwell: u32,
     waiting: Option<u8>,
     moving: bool,
-    latest: Option<Move>,
+    pub latest: Option<Move>,
     positions: [i32; 5],
     pub starts: u32,
     /// Every move that has ended, with its entry.

@@ -10,6 +10,7 @@ pub mod sequence;
 pub mod settled;
 pub mod stopped;
 pub mod stored_lists;
+pub mod sums;
 pub mod vectors;
 
 use reference::{front, Machine, TickAnswer};

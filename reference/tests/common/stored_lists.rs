@@ -48,19 +48,29 @@ pub fn played(list: &List, mut ticked: impl FnMut(TickAnswer), mut read: impl Fn
     }
 }
 
-/// A list goes to a controller of its first switch and is followed from its answers.
-pub fn followed(list: &List) -> Followed {
+/// A list goes to a controller of its first switch and is followed from its answers; what is known after each tick.
+pub fn followed_by_ticks(list: &List, mut ticked: impl FnMut(&Followed)) -> Followed {
     let mut machine = Machine::power_on(list.first).0;
     let mut followed = Followed::default();
     for &call in &list.calls {
-        match call {
+        let (count, word, lent) = match call {
             Call::Byte { byte, lent } => {
                 followed.byte(&mut machine, byte, lent as usize);
+                continue;
             }
-            Call::Ticks { count, word } => (0..count).for_each(|_| followed.tick(&mut machine, word, 120)),
-            Call::Tick { word, lent } => followed.tick(&mut machine, word, lent as usize),
-            Call::Readings => {}
+            Call::Ticks { count, word } => (count, word, 120),
+            Call::Tick { word, lent } => (1, word, lent as usize),
+            Call::Readings => continue,
+        };
+        for _ in 0..count {
+            followed.tick(&mut machine, word, lent);
+            ticked(&followed);
         }
     }
     followed
+}
+
+/// A list goes to a controller of its first switch and is followed from its answers.
+pub fn followed(list: &List) -> Followed {
+    followed_by_ticks(list, |_| {})
 }
