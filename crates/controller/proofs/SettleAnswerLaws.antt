@@ -7,12 +7,13 @@ use lib.ListN.{length}
 use Rattle.block.specs.Block.{over}
 use Rattle.block.proofs.Buffers.{over-nil}
 use Rattle.receiver.specs.Receiver.{beforeEnd}
+use Rattle.outputs.specs.Outputs.{generalOf}
 use Rattle.machine.specs.State.{Machine}
 use Rattle.machine.specs.Steps as steps
 use Rattle.machine.specs.Steps.{tickStep, refusedTick, bufferAfterTick}
 use Rattle.machine.specs.Calls as calls
 use Rattle.machine.specs.Calls.{Call, state, buffer, bytes}
-use Rattle.machine.specs.Settle.{latestBlock}
+use Rattle.machine.specs.Settle.{switchOf, latestBlock}
 use Rattle.machine.proofs.SettleLaws.{settled}
 use Rattle.controller.specs.declared.state.Controller.{Controller}
 use Rattle.controller.specs.declared.state.PowerOn.{PowerOn}
@@ -76,6 +77,11 @@ told-held s p (tick w entry exit r ∷ l) f =
     record {
       size = ap (λ y. y .length) a ∙ ap length x;
       laid = b ∙ ap (λ (y : List ℕ). over y entry) x;
+      words = λ q. let x = settled s (callsOf l) .words w entry q in
+          record {
+            first = ap (λ y. generalOf (switchOf s) (y .first)) a ∙ x .first;
+            second = ap (λ y. generalOf (switchOf s) (y .second)) a ∙ x .second;
+          };
       short = λ q. turned-held m (last p l) w 2 entry exit r e a b (settled s (callsOf l) .short w entry q);
       large = λ q t. turned-held m (last p l) w 3 entry exit r e a b (settled s (callsOf l) .large w entry q t);
     }

@@ -11,9 +11,9 @@ use Rattle.laws.specs.Axes.{each}
 use Rattle.block.specs.Block.{over, frontOf}
 use Rattle.journal.specs.Journal.{zeroEntry}
 use Rattle.receiver.specs.Receiver.{beforeEnd}
-use Rattle.machine.specs.Steps.{outcome, isShort, tooLarge}
+use Rattle.machine.specs.Steps.{outcome, isShort, tooLarge, tickTurned}
 use Rattle.machine.specs.Calls.{state}
-use Rattle.machine.specs.Settle.{endsW, blockDue}
+use Rattle.machine.specs.Settle.{endsW, blockDue, Shows}
 use Rattle.controller.specs.declared.state.Controller.{Controller}
 use Rattle.controller.specs.declared.state.TickAnswer.{TickAnswer}
 use Rattle.controller.specs.declared.state.PowerOn.{PowerOn}
@@ -44,11 +44,12 @@ abbrev pub Turned : Controller → ℕ → List ℕ → List ℕ → TickAnswer 
 Turned c n entry exit r = (r ≡ refusedWith c n) × (exit ≡ entry)
 
 -- A tick tells the length of the block that is due and leaves it at the front of its buffer, which is otherwise as it
--- was; 2, or else 3, turns it away.
+-- was; its words show the general outputs; 2, or else 3, turns it away.
 pub record TickTold (s : ℕ) (p : PowerOn) (l : List Answered) (w : ℕ) (entry exit : List ℕ) (r : TickAnswer)
     : Type 0 where
   pub size : r .length ≡ length (blockDue s (callsOf (tick w entry exit r ∷ l)))
   pub laid : exit ≡ over (blockDue s (callsOf (tick w entry exit r ∷ l))) entry
+  pub words : tickTurned w entry ≡ false → Shows s (callsOf (tick w entry exit r ∷ l)) (r .first) (r .second)
   pub short : isShort entry ≡ true → Turned (last p l) 2 entry exit r
   pub large : isShort entry ≡ false → tooLarge w ≡ true → Turned (last p l) 3 entry exit r
 

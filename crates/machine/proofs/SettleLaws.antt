@@ -1,17 +1,22 @@
 -- W lines, for every list of calls: which tick answers the block of one, and what it says; that an accepted W line
--- answers no bytes and sets its outputs at once; and the ticks that 2 and 3 turn away. Assumes nothing.
+-- answers no bytes and sets its outputs at once, which the words of the next tick show; and the ticks that 2 and 3 turn
+-- away. Assumes nothing.
 use Prim.Native.Nat.{ℕ, _+_, _-_, min}
-use mathlib.Core.Bool.{Bool, true, false, cond, not, _&&_, _||_}
+use mathlib.Core.Bool.{Bool, true, false, cond, not, _&&_, _||_, false≢true}
 use mathlib.Core.List.{List, [], _∷_}
 use mathlib.Core.Path.{_≡_, refl, sym, ap, subst, _∙_}
 use native.Mathlib.Omega.{arith}
 use borrow.Author.Tests.{eq-eqb, ne-eqb, eqb-true, eqb-false}
 use lib.Dec.{leb, eqb}
+use lib.IntN.{ℤ}
 use Rattle.laws.specs.Bits.{bit, weight}
+use Rattle.outputs.specs.Outputs.{generalOf}
+use Rattle.outputs.proofs.Words.{word-general}
 use Rattle.reply.specs.Reply.{inputsOf}
 use Rattle.machine.specs.State.{Settle, Machine}
 use Rattle.machine.specs.Stops.{watchMost, watchFull, takes}
-use Rattle.machine.specs.Steps.{outcome, isShort, tooLarge, tickBy}
+use Rattle.machine.specs.Steps.{refused, accepted, outcome, isShort, tooLarge, tickTurned, tickBy, tickStep}
+use Rattle.machine.specs.Outputs.{word}
 use Rattle.machine.specs.Calls.{Call, byte, tick, run, state}
 use Rattle.machine.specs.Watch.{lastWatch, ticksUnheard}
 use Rattle.machine.specs.Settle.{
@@ -27,6 +32,7 @@ use Rattle.machine.specs.Settle.{
   latestBlock,
   lastWord,
   lastOutputs,
+  Shows,
   Settles,
 }
 use Rattle.machine.proofs.WatchLaws.{setting-is, count-is, fills}
@@ -146,12 +152,45 @@ answered-is s (tick w d ∷ h) = when (isShort d) (tooLarge w)
         ap (λ (k : ℕ). cond (eqb (m .settle .left) 1) (inputsOf k w (m .settle .ident)) []) (tied s h .switch)
         ∙ block-is s w (m .settle) (lastW s h) (ticksSinceW s h) (tied s h .waits)
 
+-- ---- The words of a tick
+
+-- The machine after a tick, with the pulses p, shows the list's outputs in both words.
+word-shows : (s : ℕ) (h : List Call) (p : ℕ → ℤ) (early : Bool)
+    → generalOf (switchOf s) (word (state s h) p early) ≡ generalOf (switchOf s) (lastOutputs s h)
+word-shows s h p early =
+    let m = state s h in
+    ap (λ (k : ℕ). generalOf k (word m p early)) (sym (tied s h .switch))
+    ∙ (word-general (m .switch) (m .settings .polarity) (m .outputs) (m .move .plan .minus) p early
+    ∙ λ i. generalOf (tied s h .switch i) (tied s h .outputs i))
+
+words-are : (s : ℕ) (h : List Call) (w : ℕ) (d : List ℕ) → tickTurned w d ≡ false
+    → Shows s (tick w d ∷ h) (tickStep (state s h) w d .first) (tickStep (state s h) w d .second)
+unfolding run
+words-are s h w d = when (isShort d) (tooLarge w) (word-shows s (tick w d ∷ h))
+  where
+    m : Machine
+    m = state s h
+
+    Shown : Machine → Type 0
+    Shown x =
+        (p : ℕ → ℤ) (early : Bool)
+        → generalOf (switchOf s) (word x p early) ≡ generalOf (switchOf s) (lastOutputs s (tick w d ∷ h))
+
+    when : (a b : Bool) → Shown (tickBy m w a b .machine) → a || b ≡ false
+        → Shows s (tick w d ∷ h) (tickBy m w a b .first) (tickBy m w a b .second)
+    when true b f e = absurd (false≢true (sym e))
+    when false true f e = absurd (false≢true (sym e))
+    when false false f e =
+        let p = tickBy m w false false .pulse in
+        record { first = f p true; second = f p false }
+
 pub settled : Settles
 settled s h = record {
   answered = answered-is s h;
   ended = ended-is s h;
-  accepts = accepts-is (state s h);
-  outputs = tied s h .outputs;
+  accepts = λ c digits silent ident e. ap (λ (n : ℕ). cond (eqb n 0) (accepted c digits silent ident)
+      (refused n silent ident)) (accepts-is (state s h) c e);
+  words = words-are s h;
   inputs = tied s h .inputs;
   short = λ w d e. ap (λ (t : Bool). tickBy (state s h) w t (tooLarge w)) e;
   large = λ w d e q. λ i. tickBy (state s h) w (e i) (q i);

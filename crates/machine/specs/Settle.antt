@@ -1,6 +1,6 @@
--- Paper 02, 3/14, of every list of calls: which tick answers the block of a W line, and what it says, the general
--- outputs and the inputs, read off the list as in List.antt. Which lines are accepted is what the machine of paper 01
--- does.
+-- Paper 02, 3/14, of every list of calls: which tick answers the block of a W line, and what the block says; the
+-- general outputs that the words show; and the inputs that q 8 tells. All is read off the list as in List.antt. Which
+-- lines are accepted is what the machine of paper 01 does.
 use Prim.Native.Nat.{ℕ, _+_}
 use mathlib.Core.Bool.{Bool, true, false, cond, _&&_}
 use mathlib.Core.List.{List, [], _∷_}
@@ -10,10 +10,12 @@ use Rattle.laws.specs.Bits.{bit, weight}
 use Rattle.digits.specs.declared.Ident.{Ident}
 use Rattle.line.specs.declared.command.Command.{Command}
 use Rattle.line.specs.declared.command.Command.the-variants as C
+use Rattle.line.specs.declared.Judged.the-variants.{Accepted}
 use Rattle.line.specs.Codes.{isW}
 use Rattle.reply.specs.Reply.{letterR, blockFor}
+use Rattle.outputs.specs.Outputs.{generalOf}
 use Rattle.machine.specs.State.{Machine}
-use Rattle.machine.specs.Commands.{number}
+use Rattle.machine.specs.Replies.{toldOf}
 use Rattle.machine.specs.Steps.{
   badSwitch,
   Outcome,
@@ -21,6 +23,7 @@ use Rattle.machine.specs.Steps.{
   gathered,
   refused,
   accepted,
+  decided,
   outcome,
   byteStep,
   isShort,
@@ -63,7 +66,8 @@ abbrev pub sinceAfter : Machine → Call → ℕ → ℕ
 sinceAfter m (byte b buffer) old = cond (endsW (outcome m b buffer)) 0 old
 sinceAfter m (tick w buffer) old = old + weight (isTaken (tick w buffer)) 1
 
--- What a tick answers of a block. The reply to a line is no such block: of that of a W line `WEnded` speaks.
+-- The block of a W line that a call answers. A byte answers none: a W line has no reply (`WEnded`), and the R block of
+-- q 8 is not a W line's.
 abbrev pub answersBlock : Machine → Call → List ℕ
 answersBlock m (byte b buffer) = []
 answersBlock m (tick w buffer) = tickStep m w buffer .reply
@@ -138,6 +142,11 @@ lastOutputs s [] = 0
 lastOutputs s (byte b buffer ∷ h) = outputsBy (outcome (state s h) b buffer) (lastOutputs s h)
 lastOutputs s (tick w buffer ∷ h) = cond (clearsIn s h w buffer) 0 (lastOutputs s h)
 
+-- The words x and y of the latest call, a tick, show them: bits 10 to 23, or 20 to 23 from switch 8 on.
+pub record Shows (s : ℕ) (h : List Call) (x y : ℕ) : Type 0 where
+  pub first : generalOf (switchOf s) x ≡ generalOf (switchOf s) (lastOutputs s h)
+  pub second : generalOf (switchOf s) y ≡ generalOf (switchOf s) (lastOutputs s h)
+
 -- ---- The claim
 
 -- A byte b after the list that ends an accepted W line answers no bytes, and number 0.
@@ -150,12 +159,14 @@ pub record Settled (s : ℕ) (h : List Call) : Type 0 where
   -- accepted one after it: this block
   pub answered : latestBlock s h ≡ blockDue s h
   pub ended : (b : ℕ) (buffer : List ℕ) → endsW (outcome (state s h) b buffer) ≡ true → WEnded s h b buffer
-  -- no number from 11 on turns a W line away
-  pub accepts : (c : Command) → isW c ≡ true → number (state s h) c ≡ 0
-  -- its outputs are set at once (a query sets none): those that words are made from are the list's
-  pub outputs : state s h .outputs ≡ lastOutputs s h
-  -- and the inputs that the R block of q 8 is made from are the last tick's
-  pub inputs : state s h .inputs ≡ lastWord s h
+  -- a W line that none of 4 to 10 turns away is accepted
+  pub accepts : (c : Command) (digits : ℕ) (silent : Bool) (ident : Ident) → isW c ≡ true
+      → decided (state s h) silent ident (Accepted c digits) ≡ accepted c digits silent ident
+  -- its outputs are set at once (a query sets none): the next tick shows them, whatever else it does
+  pub words : (w : ℕ) (buffer : List ℕ) → tickTurned w buffer ≡ false
+      → Shows s (tick w buffer ∷ h) (tickStep (state s h) w buffer .first) (tickStep (state s h) w buffer .second)
+  -- the inputs that the R block of q 8 is made from are the last tick's
+  pub inputs : toldOf (state s h) .inputs ≡ lastWord s h
   -- 2, before 3: nothing altered, pulses and words 0, no entry and no block, the number in the failed start's place
   pub short : (w : ℕ) (buffer : List ℕ) → isShort buffer ≡ true
       → tickStep (state s h) w buffer ≡ refusedTick (state s h) 2

@@ -1,5 +1,5 @@
--- One call on the machine: power-on, a received byte with its lent buffer, a tick with its input word and its lent
--- buffer.
+-- One call on the machine: a received byte with its lent buffer, a tick with its input word and its lent buffer.
+-- Power-on (Power.antt) is handed on.
 use Prim.Native.Nat.{ℕ, _-_}
 use mathlib.Core.Bool.{Bool, true, false, cond, _||_}
 use mathlib.Core.List.{List, []}
@@ -86,8 +86,7 @@ abbrev pub bufferAfter : ByteAnswer → List ℕ → List ℕ
 bufferAfter a buffer = over (a .reply) buffer
 
 -- ---- A tick, in its order: inputs, watch count, emergency, outputs; dwell and waiting start; stop causes; ramp and
--- pulses. A block has the inputs of this tick; nothing else of the
--- tick alters it.
+-- pulses. A block has the inputs of this tick; nothing else of the tick alters it.
 
 -- What comes of a waiting start in a tick.
 pub data Tried : Type 0 where

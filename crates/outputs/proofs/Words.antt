@@ -1,8 +1,8 @@
 -- A word is the sum of its parts: what the general outputs add, and for each axis what its lines add, at rest or
--- while it pulses. Assumes nothing.
+-- while it pulses; and so each word shows the general outputs. Assumes nothing.
 use Prim.Native.Nat.{ℕ, _+_, _*_, _/_, _%_, _^_, _≤_, _<_}
 use mathlib.Core.Bool.{Bool, true, false, cond, and-false}
-use mathlib.Core.Path.{_≡_, ap, _∙_}
+use mathlib.Core.Path.{_≡_, ap, subst, _∙_}
 use native.Mathlib.Omega.{arith}
 use lib.Dec.{ltb, eqb, lit≤, lit<}
 use lib.IntN.{ℤ, pos}
@@ -22,6 +22,15 @@ sum-narrow o e f g h = omega arith
 sum-wide : (o : ℕ) {x y m z l : ℕ} → x + y ≡ m + z → y ≡ o % 1048576 → z ≡ o % 16777216 → m ≡ l
     → x ≡ o % 16777216 / 1048576 * 1048576 + l
 sum-wide o e f g h = omega arith
+
+-- Lines that stay below them leave the others as they are.
+general-narrow : (o : ℕ) {x l : ℕ} → x ≡ o % 16777216 / 1024 * 1024 + l → l < 1024
+    → x % 16777216 / 1024 * 1024 ≡ o % 16777216 / 1024 * 1024
+general-narrow o e h = omega arith
+
+general-wide : (o : ℕ) {x l : ℕ} → x ≡ o % 16777216 / 1048576 * 1048576 + l → l < 1048576
+    → x % 16777216 / 1048576 * 1048576 ≡ o % 16777216 / 1048576 * 1048576
+general-wide o e h = omega arith
 
 module _ (s q o : ℕ) (minus : ℕ → Bool) (p : ℕ → ℤ) (early : Bool) where
   -- Line j of axis k.
@@ -77,6 +86,20 @@ module _ (s q o : ℕ) (minus : ℕ → Bool) (p : ℕ → ℤ) (early : Bool) w
           + cond t (pairOf (at 4 0) (at 4 1) 256) (inversesOf (at 4 0) (at 4 1) 65536))
       either true = narrow-word
       either false = wide-word
+
+  -- Lines stay below the lowest bit of the general outputs.
+  pub word-general : generalOf s (wordOf s q o minus p early) ≡ generalOf s o
+  unfolding wordOf
+  word-general = either (ltb s 8)
+    where
+      either : (t : Bool)
+          → cond t (weigh 24 (λ i. cond t (narrowBit s q o minus p early i) (wideBit s q o minus p early i))
+          % 16777216 / 1024 * 1024)
+          (weigh 24 (λ i. cond t (narrowBit s q o minus p early i) (wideBit s q o minus p early i))
+          % 16777216 / 1048576 * 1048576)
+          ≡ cond t (o % 16777216 / 1024 * 1024) (o % 16777216 / 1048576 * 1048576)
+      either true = general-narrow o narrow-word (subst (λ (n : ℕ). n < 1024) narrow-lines (weigh-lt 10 narrowLine))
+      either false = general-wide o wide-word (subst (λ (n : ℕ). n < 1048576) wide-lines (weigh-lt 20 wideLine))
 
 -- ---- the two halves of a tick
 

@@ -4,7 +4,7 @@ use Prim.Native.Nat.{ℕ, _≤_}
 use native.Mathlib.Omega.{arith}
 use mathlib.Core.Bool.{Bool, true, false, cond}
 use mathlib.Core.List.{List, []}
-use mathlib.Core.Path.{_≡_}
+use mathlib.Core.Path.{_≡_, subst}
 use borrow.Author.Tests.{eqb-false}
 use lib.Dec.{ltb, eqb}
 use lib.ListN.{length}
@@ -33,7 +33,9 @@ use Rattle.machine.specs.Steps.{
 }
 use Rattle.machine.specs.Calls.{Call, state}
 use Rattle.machine.proofs.Fits.{Fits}
+use Rattle.machine.specs.Settle.{lastWord}
 use Rattle.machine.proofs.FitLaws.{fits}
+use Rattle.machine.proofs.SettleLaws.{settled}
 use Rattle.host.specs.Writer.{identFits}
 use Rattle.host.proofs.JudgeLaws.{named-late}
 use Rattle.reader.specs.Reader.{Figures}
@@ -51,7 +53,7 @@ unless-silent false r = r
 
 -- What comes of a byte, read.
 abbrev Said : Machine → ℕ → Outcome → Type 0
-Said m b o = ReadsAs (answered m b o .reply) (saidOf m o)
+Said m b o = ReadsAs (answered m b o .reply) (saidOf m (m .inputs) o)
 
 refused-said : (m : Machine) (b n : ℕ) (silent : Bool) (ident : Ident) → Kept m → 4 ≤ n → n ≤ 17
     → identFits (refusalIdent n ident) ≡ true → Said m b (refused n silent ident)
@@ -78,11 +80,13 @@ heard-said m b f k =
 
 -- Any controller that calls made from power-on, any byte and any buffer: the reply is read back whole.
 byte-read : (s : ℕ) (h : List Call) (b : ℕ) (buffer : List ℕ)
-    → ReadsAs (byteStep (state s h) b buffer .reply) (saidOf (state s h) (outcome (state s h) b buffer))
+    → ReadsAs (byteStep (state s h) b buffer .reply)
+    (saidOf (state s h) (lastWord s h) (outcome (state s h) b buffer))
 byte-read s h b buffer =
     let m = state s h in
-    by-bool (Said m b) (ltb (length buffer) 120) untaken (outcomeOf m (receive (m .line) b .heard))
-    (λ _. none-read) (λ _. heard-said m b (fits s h) (kept s h))
+    subst (λ (w : ℕ). ReadsAs (byteStep m b buffer .reply) (saidOf m w (outcome m b buffer))) (settled s h .inputs)
+    (by-bool (Said m b) (ltb (length buffer) 120) untaken (outcomeOf m (receive (m .line) b .heard))
+    (λ _. none-read) (λ _. heard-said m b (fits s h) (kept s h)))
 
 pub replies-read : RepliesRead
 replies-read = record { bytes = byte-read; ticks = tick-read }

@@ -113,7 +113,7 @@ module _ (m : Machine) (f : Fits m) (k : Kept m) (ident : Ident) (named : identF
   status-back : readOf (blockFor (m .switch) letterS (coded 6 (Stops.status m)) ident) ≡ statusIn m ident
   status-back = status-read (m .switch) ident (framed m ident k named) (Stops.status m) (status-low m)
 
-  inputs-back : readOf (blockFor (m .switch) letterR (m .inputs) ident) ≡ inputsIn m ident
+  inputs-back : readOf (blockFor (m .switch) letterR (m .inputs) ident) ≡ inputsIn m (m .inputs) ident
   inputs-back = inputs-read (m .switch) ident (framed m ident k named) (m .inputs) (k .inputs)
 
   -- The block of a letter and digits.
@@ -137,7 +137,7 @@ module _ (m : Machine) (f : Fits m) (k : Kept m) (ident : Ident) (named : identF
   unfolding rowOf
   twelve-row = simp (append-assoc, append-nil)
 
-  all-read : ReadsAs (rowOf 12 letters (numbers (toldOf m)) (m .switch) ident) (saidFor m R.Everything ident)
+  all-read : ReadsAs (rowOf 12 letters (numbers (toldOf m)) (m .switch) ident) (saidFor m (m .inputs) R.Everything ident)
   all-read = record {
     blocks = twelve;
     whole = twelve-row;
@@ -154,7 +154,7 @@ module _ (m : Machine) (f : Fits m) (k : Kept m) (ident : Ident) (named : identF
 
   -- The reply to a reading.
   reading-reads : (r : Reading) → readingFits r ≡ true
-      → ReadsAs (bytesOf (toldOf m) (readingOf (toldOf m) r) ident) (saidFor m r ident)
+      → ReadsAs (bytesOf (toldOf m) (readingOf (toldOf m) r) ident) (saidFor m (m .inputs) r ident)
   reading-reads (R.Travel j) h = one-read (travel-back j (axis j h))
   reading-reads (R.Position j) h = one-read (place-back j (axis j h))
   reading-reads R.Status h = one-read status-back
@@ -163,12 +163,13 @@ module _ (m : Machine) (f : Fits m) (k : Kept m) (ident : Ident) (named : identF
 
   -- The reply to an accepted command.
   pub reply-reads : (c : Command) (n : ℕ) → CommandFits c → n < sixDigits → Echoed c n
-      → ReadsAs (replyTo m c n ident) (saidTo m c n ident)
+      → ReadsAs (replyTo m c n ident) (saidTo m (m .inputs) c n ident)
   unfolding replyOf
   reply-reads (C.Distance j s d) n h low e = zero-read
   reply-reads (C.Set j v) n h low e = when (ltb j 13) refl
     where
-      when : (t : Bool) → ltb j 13 ≡ t → ReadsAs (replyTo m (C.Set j v) n ident) (saidTo m (C.Set j v) n ident)
+      when : (t : Bool) → ltb j 13 ≡ t
+          → ReadsAs (replyTo m (C.Set j v) n ident) (saidTo m (m .inputs) (C.Set j v) n ident)
       when true q = rw q zero-read
       when false q = rw q (echo-back n low (e (ltb-false j 13 q)))
   reply-reads (C.Start j waits) n h low e = echo-back n low e

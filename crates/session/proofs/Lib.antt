@@ -10,6 +10,7 @@ mod PartLaws
 mod PlaceLaws
 pub mod SessionLaws
 mod OpeningLaws
+mod SettledLaws
 pub mod PrintedLaws
 mod LineLaws
 pub mod AfterLaws

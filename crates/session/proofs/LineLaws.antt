@@ -18,6 +18,7 @@ use Rattle.session.specs.Asked.{letterT, askedOf}
 use Rattle.session.specs.Session.{sending, asking, Answer, fresh, shown, asks}
 use Rattle.session.specs.Lines.{prints, fed, atLine, replies, goesIn, doneBy, lineDone, isLine, Lines}
 use Rattle.session.proofs.OpeningLaws.{off-is, first-is}
+use Rattle.session.proofs.SettledLaws.{silent-is, settles-is}
 use Rattle.session.proofs.PrintedLaws.{prints-parts}
 
 -- A character of a line is no line feed, and the rest is a line.
@@ -140,6 +141,8 @@ lines = record {
   opens = opens-is;
   off = λ i. atLine (off-is i);
   first = first-is;
+  silent = silent-is;
+  settles = settles-is;
   parts = prints-parts;
   nothing = λ m. refl;
   whole = whole-line;

@@ -9,7 +9,7 @@ use lib.Dec.{eqb}
 use Rattle.digits.specs.Digits.{endByte}
 use Rattle.machine.specs.State.{Machine, put, withSettings}
 use Rattle.machine.specs.Steps.{powerOn, byteStep}
-use Rattle.machine.specs.Calls.{buffer, bytes, chars, from}
+use Rattle.machine.specs.Calls.{state, buffer, bytes, chars, line, lines, ticks, from}
 use Rattle.session.specs.Asked.{letterT, askedOf}
 use Rattle.session.specs.Session.{starting, Bench, Answer, fresh, shown, asks, taken, finished}
 
@@ -38,6 +38,12 @@ abbrev pub allZero : List String
 allZero =
     "S0000000" ∷ "S0100000" ∷ "S0200000" ∷ "S0300000" ∷ "S0400000" ∷ "S0600000"
     ∷ "s0000000" ∷ "s0100000" ∷ "s0200000" ∷ "s0300000" ∷ "s0400000" ∷ "R0000000" ∷ []
+
+-- The machine after a W line and 2,499 ticks: the next tick is the 2,500th, and has the one pulse of a move.
+abbrev pub settling : Machine
+settling =
+    state 0 (ticks 206 0 (lines ("P0000001" ∷ "P08F4240" ∷ "P0900FFF" ∷ "Q080" ∷ []) (ticks 2293 0
+    (line "W0ABCDEF1" []))))
 
 -- Before a line.
 abbrev pub atLine : Machine → Bench
@@ -73,8 +79,8 @@ abbrev pub isLine : List ℕ → Bool
 isLine [] = true
 isLine (c ∷ cs) = not (eqb c 10) && isLine cs
 
--- The first three say how the bench begins, before any input; the next that an input prints what its bytes print and
--- then what its end does; the last three what is printed for every input.
+-- The first three say how the bench begins, before any input; the next two what a W line and its block print; then that
+-- an input prints what its bytes print and then what its end does; the last three what is printed for every input.
 pub record Lines : Type 0 where
   -- power-on with switch 0 and the host's first line, whose reply is dropped (paper 02, 2/14): as the first line of an
   -- input to a bench at plain power-on it prints U0000000, and then all that is printed here
@@ -84,6 +90,9 @@ pub record Lines : Type 0 where
   pub off : fresh ≡ atLine (withSettings (powerOn 0) (put (powerOn 0 .settings) 11 0))
   -- so a first line q08 prints its twelve blocks and nothing else
   pub first : prints fresh (fed ("q08" ∷ [])) ≡ fed allZero
+  -- a W line prints nothing; its block prints before the sums of the ticks that it comes in (3/14)
+  pub silent : prints fresh (fed ("W0ABCDEF1" ∷ [])) ≡ []
+  pub settles : prints (atLine settling) (fed ("T 1 123456" ∷ [])) ≡ fed ("R01234561" ∷ "1 0 0 0 0" ∷ [])
   pub parts : (x : Bench) (bs : List ℕ) → prints x bs ≡ printedBy x bs ++ finished (after x bs) .printed
   pub nothing : (m : Machine) → prints (atLine m) [] ≡ []
   -- a line, its line feed, and the rest of the input

@@ -1,7 +1,7 @@
 // What the bench program does with its input (paper 01, "Host end and program"), a byte or a stretch at a time, on
-// values and lent buffers: lines that begin with T run ticks and print the sums of the signed pulses, other lines go in
-// and their replies are printed. The only premise is that the session is one that `new` and the calls after it made.
-// Assumes nothing.
+// values and lent buffers: lines that begin with T run ticks and print the sums of the signed pulses, before them the
+// block of a W line if it comes in these ticks; other lines go in and their replies are printed. The only premise is
+// that the session is one that `new` and the calls after it made. Assumes nothing.
 ghost use Prim.Native.Nat.{_≤_};
 ghost use mathlib.Core.List.{[], _∷_, _++_};
 ghost use mathlib.Core.Path.{_≡_};
