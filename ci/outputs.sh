@@ -1,16 +1,18 @@
 #!/usr/bin/env bash
 # Stored outputs against the reference's programs: ci/outputs.sh compares, ci/outputs.sh make writes them anew. Each
-# NAME.in has its NAME.out beside it; crates/bench has stdin and stdout; the program vectors prints the answers to all
-# files that its args name.
+# NAME.in has its NAME.out beside it; crates/bench and crates/desk have stdin and stdout; docs/recipe.out is what the
+# words of docs/recipe.txt come to by way of the bench program; the program vectors prints the answers to all files that
+# its args name.
 set -eu
 cd "$(dirname "$0")/.."
 cargo build --release --offline --quiet --manifest-path reference/Cargo.toml
-# The reference's program for what a file holds: a session, lists or vectors.
+# The reference's program for what a file holds: a session, lists, vectors or words.
 printer() {
     case "$1" in
         session) echo reference/target/release/bench_reference ;;
         lists) echo reference/target/release/lists_reference ;;
         vectors) echo reference/target/release/host_reference ;;
+        words) echo reference/target/release/desk_reference ;;
     esac
 }
 # What the program vectors must print: of each file its name and its answers.
@@ -25,6 +27,8 @@ printed() {
     case "$1" in
         crates/vectors/stdout) all_answers ;;
         crates/bench/stdout) "$(printer session)" < crates/bench/stdin ;;
+        crates/desk/stdout) "$(printer words)" < crates/desk/stdin ;;
+        docs/recipe.out) "$(printer words)" < docs/recipe.txt | "$(printer session)" | "$(printer words)" ;;
         *) "$(printer session)" < "${1%.out}.in" ;;
     esac
 }

@@ -1,5 +1,6 @@
 //! What all counters have in common: they add up, and are printed alike.
 
+use std::collections::BTreeMap;
 use std::fmt::Display;
 
 /// A number with a comma before each three digits.
@@ -25,6 +26,42 @@ pub fn listed<K: Display>(counts: impl Iterator<Item = (K, u64)>) -> String {
 pub fn add_each<const N: usize>(sums: &mut [u64; N], more: &[u64; N]) {
     for (sum, count) in sums.iter_mut().zip(more) {
         *sum += count;
+    }
+}
+
+/// Counts by their names, which come to be known as they are met.
+#[derive(Clone, Debug)]
+pub struct Named<K>(BTreeMap<K, u64>);
+
+impl<K> Default for Named<K> {
+    fn default() -> Named<K> {
+        Named(BTreeMap::new())
+    }
+}
+
+impl<K: Clone + Display + Ord> Named<K> {
+    pub fn count(&mut self, name: K) {
+        *self.0.entry(name).or_default() += 1;
+    }
+
+    /// Adds each count to the sum of the same name.
+    pub fn add(&mut self, more: &Named<K>) {
+        for (name, count) in &more.0 {
+            *self.0.entry(name.clone()).or_default() += count;
+        }
+    }
+
+    pub fn sum(&self) -> u64 {
+        self.0.values().sum()
+    }
+
+    pub fn listed(&self) -> String {
+        listed(self.0.iter().map(|(name, &count)| (name, count)))
+    }
+
+    /// With a colon behind each name, for those that are numbers themselves.
+    pub fn listed_with_colons(&self) -> String {
+        listed(self.0.iter().map(|(name, &count)| (format!("{name}:"), count)))
     }
 }
 

@@ -2,9 +2,11 @@
 //!
 //! `session` runs text through the two bench programs, `list` plays calls to the two machines. An `operator` works
 //! at a `bench` to make them: it sets distances, starts, slows, stops and reads as a cellar master would. `hosted` runs
-//! lines of the page of stored vectors through the two host ends. `speed` times both.
+//! lines of the page of stored vectors through the two host ends, `worded` words, reply blocks and sums through the two
+//! desks. `speed` times both.
 
 pub mod answers;
+pub mod batch;
 pub mod bench;
 pub mod bits;
 pub mod call;
@@ -27,5 +29,8 @@ pub mod shrink;
 pub mod speed;
 #[path = "../../include/temixohuel.rs"]
 pub mod temixohuel;
+pub mod told;
 pub mod touch;
 pub mod vector;
+pub mod worded;
+pub mod words;

@@ -5,20 +5,29 @@ use std::io;
 use std::path::{Path, PathBuf};
 use std::process::Command;
 
-/// The proved bench program, the proved host end and the folder of working files, from the root of the repository.
+/// The proved bench program, host end and desk, and the folder of working files, from the root of the repository.
 pub const BENCH: &str = "target/bin/bench";
 pub const HOST: &str = "target/bin/vectors";
+pub const DESK: &str = "target/bin/desk";
 pub const FOLDER: &str = "target/compare";
 
 /// Said where an output has no such line.
 pub const END_OF_OUTPUT: &str = "(end of output)";
 
-/// Where the proved programs stand (`host` runs the host end) and where working files go.
+/// Where the proved programs stand (`host` runs the host end, `desk` is that for people) and where working files go.
 #[derive(Clone, Debug)]
 pub struct Places {
     pub bench: PathBuf,
     pub host: PathBuf,
+    pub desk: PathBuf,
     pub folder: PathBuf,
+}
+
+impl Places {
+    /// Where they stand from the root of the repository.
+    pub fn of_repository() -> Places {
+        Places { bench: BENCH.into(), host: HOST.into(), desk: DESK.into(), folder: FOLDER.into() }
+    }
 }
 
 /// Makes the folder of working files.

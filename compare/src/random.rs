@@ -10,6 +10,7 @@ pub mod part {
     pub const CALLS: u64 = 3;
     pub const VECTORS: u64 = 3;
     pub const TIMED_BYTES: u64 = 4;
+    pub const WORDS: u64 = 5;
 }
 
 /// A sequence of random numbers.

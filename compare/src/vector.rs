@@ -1,6 +1,6 @@
 //! Lines of `docs/VECTORS.md` for the host end, with fields at their bounds, near them and anywhere.
 
-mod block;
+pub mod block;
 mod command;
 mod figure;
 mod journal;

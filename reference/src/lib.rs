@@ -1,14 +1,16 @@
 //! Reference of the five-pump blending controller, written from paper 01 and, where that is silent, the manual; the
-//! journal from paper 02, 1/14, the watch of power-on from 2/14, and the settled inputs of W lines from 3/14.
+//! journal from paper 02, 1/14, the watch of power-on from 2/14, and the settled inputs of W lines from 3/14; the
+//! program desk from the page on the line protocol.
 //!
-//! Each rule is a small function; its comment names the section of paper 01 that holds the rule, the journal, or the
-//! request of paper 02.
+//! Each rule is a small function; its comment names the section of paper 01 that holds the rule, the journal, the
+//! request of paper 02, or "From words" of that page.
 
 #![forbid(unsafe_code)]
 
 pub mod bench;
 pub mod coded;
 pub mod command;
+pub mod desk;
 pub mod digest;
 pub mod digit;
 pub mod fields;
@@ -19,6 +21,7 @@ pub mod journal;
 pub mod line;
 pub mod lists;
 pub mod machine;
+pub mod make_desk;
 pub mod make_host;
 pub mod make_journal;
 pub mod make_lists;

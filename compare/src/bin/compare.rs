@@ -1,26 +1,30 @@
-//! Random sessions, call lists and lines for the host end through the proved code and through the reference.
+//! Random sessions, call lists, lines for the host end and lines for the desk through the proved code and through the
+//! reference.
 
+use compare::batch::Batch;
 use compare::counted::{grouped, Counted};
-use compare::hosted::{self, Batch};
+use compare::hosted;
 use compare::list::{self, List};
 use compare::program::{self, Places};
 use compare::session::{self, Session};
+use compare::worded;
 use std::fmt::Display;
 use std::process::exit;
 use std::sync::atomic::{AtomicBool, AtomicUsize, Ordering};
 use std::thread;
 
 const USAGE: &str =
-    "usage: compare [--sessions N] [--ticks N] [--vectors N] [SEED ...], from the root of the repository";
+    "usage: compare [--sessions N] [--ticks N] [--vectors N] [--words N] [SEED ...], from the root of the repository";
 
-/// The lines of one run of the host end.
+/// The lines of one run of the host end or of the desk.
 const BATCH: u64 = 10_000;
 
-/// What is asked for: sessions, ticks and lines for the host end in all, shared out over the seeds.
+/// What is asked for: sessions, ticks, lines for the host end and for the desk in all, shared out over the seeds.
 struct Wish {
     sessions: u64,
     ticks: u64,
     vectors: u64,
+    words: u64,
     seeds: Vec<u64>,
 }
 
@@ -32,14 +36,16 @@ fn number(text: Option<String>) -> u64 {
 }
 
 fn wish() -> Wish {
-    let mut wish = Wish { sessions: 2_000, ticks: 100_000_000, vectors: 1_000_000, seeds: Vec::new() };
-    let mut words = std::env::args().skip(1);
-    while let Some(word) = words.next() {
-        match word.as_str() {
-            "--sessions" => wish.sessions = number(words.next()),
-            "--ticks" => wish.ticks = number(words.next()),
-            "--vectors" => wish.vectors = number(words.next()),
-            _ => wish.seeds.push(number(Some(word))),
+    let (sessions, ticks, vectors, words) = (2_000, 100_000_000, 1_000_000, 1_000_000);
+    let mut wish = Wish { sessions, ticks, vectors, words, seeds: Vec::new() };
+    let mut given = std::env::args().skip(1);
+    while let Some(one) = given.next() {
+        match one.as_str() {
+            "--sessions" => wish.sessions = number(given.next()),
+            "--ticks" => wish.ticks = number(given.next()),
+            "--vectors" => wish.vectors = number(given.next()),
+            "--words" => wish.words = number(given.next()),
+            _ => wish.seeds.push(number(Some(one))),
         }
     }
     if wish.seeds.is_empty() {
@@ -75,13 +81,13 @@ fn lists(wish: &Wish) -> Vec<List> {
     lists
 }
 
-/// The last batch is cut to fit.
-fn batches(wish: &Wish) -> Vec<Batch> {
+/// Batches of so many lines in all; the last one is cut to fit.
+fn batches(wish: &Wish, lines: u64) -> Vec<Batch> {
     let batch = |at| {
         let (seed, index) = wish.share(at);
-        Batch { seed, index, lines: BATCH.min(wish.vectors - at * BATCH) as usize }
+        Batch { seed, index, lines: BATCH.min(lines - at * BATCH) as usize }
     };
-    (0..wish.vectors.div_ceil(BATCH)).map(batch).collect()
+    (0..lines.div_ceil(BATCH)).map(batch).collect()
 }
 
 /// What one worker met, and the first difference that it found.
@@ -145,15 +151,21 @@ fn run_lists(wish: &Wish, places: &Places) {
 
 fn run_vectors(wish: &Wish, places: &Places) {
     let run = |core, batch: &Batch| hosted::compare(places, *batch, &format!("working-{core}.vectors"));
-    let seen = run_all(&batches(wish), run);
+    let seen = run_all(&batches(wish, wish.vectors), run);
     tell("lines through the two host ends", seen.lines, seen);
+}
+
+fn run_words(wish: &Wish, places: &Places) {
+    let run = |core, batch: &Batch| worded::compare(places, *batch, &format!("working-{core}.words"));
+    let seen = run_all(&batches(wish, wish.words), run);
+    tell("lines through the two desks", seen.lines, seen);
 }
 
 fn main() {
     let wish = wish();
-    let places = Places { bench: program::BENCH.into(), host: program::HOST.into(), folder: program::FOLDER.into() };
-    if !places.bench.is_file() || !places.host.is_file() {
-        eprintln!("a proved program is absent: run `rt check bench vectors` first\n{USAGE}");
+    let places = Places::of_repository();
+    if ![&places.bench, &places.host, &places.desk].iter().all(|program| program.is_file()) {
+        eprintln!("a proved program is absent: run `rt check bench desk vectors` first\n{USAGE}");
         exit(2);
     }
     program::make_folder();
@@ -166,5 +178,8 @@ fn main() {
     }
     if wish.vectors > 0 {
         run_vectors(&wish, &places);
+    }
+    if wish.words > 0 {
+        run_words(&wish, &places);
     }
 }

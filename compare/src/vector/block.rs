@@ -28,8 +28,8 @@ fn content(random: &mut Random) -> (u8, u32) {
     }
 }
 
-/// A block whose fields may be out of their ranges.
-fn block(random: &mut Random) -> Vec<u8> {
+/// A block whose fields may be out of their ranges, with its 0D.
+pub fn block(random: &mut Random) -> Vec<u8> {
     let (letter, number) = content(random);
     let mut block = vec![letter, random.digit()];
     block.extend(format!("{number:06X}").bytes());

@@ -6,13 +6,14 @@ use Rattle.digits.specs.Digits.{numberOf, sixOf}
 use Rattle.block.specs.Block.{blockOf}
 use Rattle.line.specs.Line.{judgeOf, judgeRow}
 use Rattle.reply.specs.Reply.{replyOf, inputsOf}
+use Rattle.text.specs.Decimal.{spell, decimalOf}
 use Rattle.machine.specs.State.{Machine, put, withSettings}
 use Rattle.machine.specs.Steps.{powerOn}
 use Rattle.machine.specs.Calls.{run}
 use Rattle.session.specs.Asked.{readOn, countOf, askedOf}
 use Rattle.session.specs.Session.{fresh}
 use Rattle.session.specs.Ticks.{sumOf, blocksOf}
-use Rattle.session.specs.Text.{spell, decimalOf, sumsText}
+use Rattle.session.specs.Text.{sumsText}
 use Rattle.session.specs.Lines.{prints, fed, settling, atLine}
 use Rattle.session.proofs.OpeningLaws.{off-is}
 

@@ -13,17 +13,9 @@ use Rattle.laws.specs.Axes.{isMinus}
 use Rattle.block.specs.Block.{over, put}
 use Rattle.block.proofs.Buffers.{put-over, part-over}
 use Rattle.block.proofs.Places.{put-snoc, put-one, put-put}
-use Rattle.session.specs.Text.{
-  decimalOf,
-  signText,
-  itemText,
-  markOf,
-  sumItem,
-  sumsText,
-  sumsLength,
-  sumsOver,
-}
-use Rattle.session.proofs.DecimalLaws.{decimal-ten}
+use Rattle.text.specs.Decimal.{decimalOf, signText}
+use Rattle.text.proofs.DecimalLaws.{decimal-ten}
+use Rattle.session.specs.Text.{itemText, markOf, sumItem, sumsText, sumsLength, sumsOver}
 
 -- ---- numbers with their signs and marks
 

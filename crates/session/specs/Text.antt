@@ -1,5 +1,5 @@
 -- Five sums as the bench program prints them: in decimal, a space between two of them, a line feed after the last.
-use Prim.Native.Nat.{ℕ, zero, suc, _+_, _/_, _%_}
+use Prim.Native.Nat.{ℕ, zero, suc}
 use mathlib.Core.Bool.{Bool, cond}
 use mathlib.Core.List.{List, [], _∷_, _++_}
 use lib.Dec.{ltb, eqb}
@@ -7,19 +7,7 @@ use lib.IntN.{ℤ, pos, natAbs}
 use lib.ListN.{length, getD}
 use Rattle.laws.specs.Axes.{isMinus}
 use Rattle.block.specs.Block.{over}
-
--- The decimal digits of n, the highest first, up to so many of them.
-unfoldable pub spell : ℕ → ℕ → List ℕ
-spell zero n = []
-spell (suc most) n = cond (ltb n 10) ((48 + n) ∷ []) (spell most (n / 10) ++ ((48 + n % 10) ∷ []))
-
--- All of them: n has no more than n + 1.
-unfoldable pub decimalOf : ℕ → List ℕ
-decimalOf n = spell (n + 1) n
-
--- A minus sign (45) stands before the digits of a number below 0.
-abbrev pub signText : Bool → ℕ → List ℕ
-signText minus n = cond minus (45 ∷ decimalOf n) (decimalOf n)
+use Rattle.text.specs.Decimal.{signText}
 
 -- What stands after the sum of axis k.
 abbrev pub markOf : ℕ → ℕ

@@ -16,7 +16,7 @@ use crate::state::Sent;
 use crate::state::Session;
 use crate::state::Taken;
 use crate::stretch::FEED;
-use crate::text;
+use crate::sums;
 use crate::ticks;
 use controller::Controller;
 use digits::END;
@@ -109,7 +109,7 @@ pub(crate) fn answer(c: Controller, buf: &mut [u8], asked: Asked) -> Taken
             let at = ran.length as usize;
             show(buf, at);
             let sums = ran.sums;
-            let length = text::write_behind(buf, at, sums);
+            let length = sums::write_behind(buf, at, sums);
             let controller = ran.controller;
             let sent = Sent {
                 controller,

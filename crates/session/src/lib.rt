@@ -27,7 +27,7 @@ mod kept;
 mod opening;
 pub mod state;
 mod stretch;
-mod text;
+mod sums;
 mod ticks;
 
 impl Session {

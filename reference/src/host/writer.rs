@@ -3,7 +3,7 @@
 use crate::coded::{coded, travel_digits};
 use crate::command::{in_range, on_setting, Command, CommandValue};
 use crate::command::{DISTANCES, DWELLS, OUTPUT_WORDS, POLARITIES, SLOPES, SPEEDS, WATCHES};
-use crate::digit::digit_character;
+use crate::digit::{capital_digit_value, digit_character};
 use crate::reply::assembled;
 
 /// Turned away, 18: the least length of a line buffer.
@@ -11,6 +11,14 @@ pub const LEAST_LINE_BUFFER: usize = 10;
 
 /// Turned away, 19: the number of a value without a line.
 const NO_LINE: u8 = 19;
+
+/// Host end: a figure that is the writer's value for a character that is no identification; it has no line.
+const NO_IDENTIFICATION_VALUE: u8 = 16;
+
+/// Host end: the writer takes 0 to 15; a character that is not 0-9 or A-F has no line (19).
+pub fn identification_value(character: u8) -> u8 {
+    capital_digit_value(character).unwrap_or(NO_IDENTIFICATION_VALUE)
+}
 
 /// Host end: the letter of a command.
 fn letter_of(command: Command) -> u8 {
@@ -99,4 +107,11 @@ pub fn write_line(value: &CommandValue, buf: &mut [u8]) -> Result<usize, u8> {
     let line = full_line(value)?;
     buf[..line.len()].copy_from_slice(&line);
     Ok(line.len())
+}
+
+/// Host end: the writer's line as text, without its 0D.
+pub fn line_text(value: &CommandValue) -> Result<String, u8> {
+    let mut buf = [0; LEAST_LINE_BUFFER];
+    let length = write_line(value, &mut buf)?;
+    Ok(buf[..length - 1].iter().map(|&character| character as char).collect())
 }

@@ -6,7 +6,7 @@ use crate::command::{Command, CommandValue};
 use crate::digest::mix;
 use crate::fields::{digits, eight_digits};
 use crate::figures::{command_of, machine_figures, Figures, Setting};
-use crate::host::{write_line, LEAST_LINE_BUFFER};
+use crate::host::line_text;
 use crate::line::with_line_end;
 use crate::machine::{Machine, LEAST_REPLY_BUFFER};
 
@@ -46,9 +46,7 @@ fn units_text(kind: Kind, figure: f64) -> String {
 
 /// Stored vectors, F: the writer's line (reply, no identification) without its 0D.
 fn line_of_command(command: Command) -> Result<String, u8> {
-    let mut buf = [0; LEAST_LINE_BUFFER];
-    let length = write_line(&CommandValue { command, silent: false, identification: None }, &mut buf)?;
-    Ok(buf[..length - 1].iter().map(|&character| character as char).collect())
+    line_text(&CommandValue { command, silent: false, identification: None })
 }
 
 /// Stored vectors, F: the number and the P command of the setting.

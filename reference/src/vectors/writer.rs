@@ -2,9 +2,8 @@
 
 use super::written_text;
 use crate::command::{Command, CommandValue};
-use crate::digit::capital_digit_value;
 use crate::fields::{eight_digits, two_digits, zero_or_one};
-use crate::host::write_line;
+use crate::host::{identification_value, write_line};
 
 /// Stored vectors, W and A: the longest buffer.
 pub const LONGEST_LINE_BUFFER: u8 = 0x40;
@@ -12,20 +11,12 @@ pub const LONGEST_LINE_BUFFER: u8 = 0x40;
 /// Stored vectors, W and A: each byte of the buffer before.
 pub const BYTE_BEFORE: u8 = 0x5A;
 
-/// Host end: a figure that is the writer's value for a character that is no identification; it has no line.
-const NO_IDENTIFICATION_VALUE: u8 = 16;
-
 /// Stored vectors: an identification is `--` where there is none, else the two digits of its character.
 fn identification_field(field: &[u8]) -> Option<Option<u8>> {
     if field == b"--" {
         return Some(None);
     }
     two_digits(field).map(Some)
-}
-
-/// Host end: the writer takes 0 to 15; a character that is not 0-9 or A-F has no line (19).
-fn writer_identification(character: u8) -> u8 {
-    capital_digit_value(character).unwrap_or(NO_IDENTIFICATION_VALUE)
 }
 
 /// Stored vectors, commands: the start of a master, plain or after the dwell.
@@ -81,6 +72,6 @@ pub(super) fn writer_line(fields: &[&[u8]]) -> Option<String> {
     let silent = zero_or_one(silent)?;
     let (number, axis) = (two_digits(number)?, two_digits(axis)?);
     let command = command_of_number(number, axis, zero_or_one(flag)?, eight_digits(value)?)?;
-    let identification = identification_field(identification)?.map(writer_identification);
+    let identification = identification_field(identification)?.map(identification_value);
     Some(run_writer(length, &CommandValue { command, silent, identification }))
 }

@@ -1,0 +1,162 @@
+// Words to lines (docs/PROTOCOL.md, "From words"): what the desk prints to a line of words. A command becomes the line
+// that the writer gives; `opening`, `master` and `ticks` have their own answers; anything else the nearest form.
+// Every public function is total: it has no premise and states its result for every input. Assumes nothing.
+ghost use mathlib.Core.Path.{_≡_};
+ghost use Rattle.text.specs.Text.{writes};
+ghost use Rattle.phrases.specs.Phrases.{
+  isSilent,
+  loudOf,
+  namedOf,
+  bodyOf,
+  nearestText,
+  lineText,
+  requestText,
+  commandText,
+  wordsText,
+  overlongText,
+};
+use crate::meaning::Meant;
+use crate::meaning::SPACE;
+use digits::END;
+use digits::Ident;
+use host::Request;
+use host::Written;
+use text::Text;
+use text::parts;
+
+mod asides;
+mod meaning;
+
+// The characters of an over-long line that are looked at.
+const LOOKED_AT: usize = 100;
+
+// The identification of a form, and the length of what stands before it.
+struct Named {
+    ident: Ident,
+    length: usize,
+}
+
+// Whether a line begins with `silent `.
+fn is_silent(line: &[u8]) -> bool
+    ensures { λ r. ⌜ r ≡ isSilent (now (line .entry)) ⌝ }
+{
+    parts::same(block::front(line, 7), b"silent ")
+}
+
+// What stands behind that, or all.
+fn loud(line: &[u8]) -> &[u8]
+    ensures { λ r. ⌜ now r ≡ loudOf (now (line .entry)) ⌝ }
+{
+    if is_silent(line) {
+        return parts::rest(line, 7);
+    }
+    line
+}
+
+// The identification, and where it begins.
+fn ident_in(line: &[u8]) -> Named
+    ensures { λ r. ⌜ r ≡ namedOf (now (line .entry)) ⌝ }
+{
+    let n = line.len();
+    if n < 5 {
+        return Named {
+            ident: Ident::Absent,
+            length: n,
+        };
+    }
+    let start = n - 5;
+    let end = n - 1;
+    let c = line[end];
+    if parts::same(&line[start..end], b" as ") {
+        return Named {
+            ident: Ident::Given(c),
+            length: start,
+        };
+    }
+    Named {
+        ident: Ident::Absent,
+        length: n,
+    }
+}
+
+// The form without either.
+fn body(line: &[u8]) -> &[u8]
+    ensures { λ r. ⌜ now r ≡ bodyOf (now (line .entry)) ⌝ }
+{
+    let rest = loud(line);
+    let named = ident_in(rest);
+    block::front(rest, named.length)
+}
+
+// The nearest form.
+pub(crate) fn nearest(text: Text, line: &[u8]) -> Text
+    ensures { λ r. ⌜ r ≡ writes text (nearestText (now (line .entry))) ⌝ }
+{
+    sentences::question(text, parts::part(body(line), SPACE, 0))
+}
+
+// The line of a request, or the number that refuses it.
+fn line_of(text: Text, request: Request) -> Text
+    ensures { λ r. ⌜ r ≡ writes text (lineText request) ⌝ }
+{
+    let mut buf = [0u8; 10];
+    let written = host::write_line(&mut buf, request);
+    match written {
+        Written::Length(n) => text.characters(parts::part(block::front(&buf, n), END, 0)),
+        Written::Refused(n) => sentences::turned_away(text, n),
+    }
+}
+
+// What is printed for what the words mean.
+fn requested(text: Text, silent: bool, ident: Ident, line: &[u8], meant: Meant) -> Text
+    ensures { λ r. ⌜ r ≡ writes text (requestText silent ident (now (line .entry)) meant) ⌝ }
+{
+    match meant {
+        Meant::Nothing => nearest(text, line),
+        Meant::Command(command) => line_of(
+            text,
+            Request {
+                silent,
+                command,
+                ident,
+            },
+        ),
+        Meant::Refused(n) => sentences::turned_away(text, n),
+    }
+}
+
+// A command in words.
+fn command(text: Text, line: &[u8]) -> Text
+    ensures { λ r. ⌜ r ≡ writes text (commandText (now (line .entry))) ⌝ }
+{
+    let silent = is_silent(line);
+    let named = ident_in(loud(line));
+    let ident = named.ident;
+    let meant = meaning::meaning_of(body(line));
+    requested(text, silent, ident, line, meant)
+}
+
+// A line of words.
+pub fn words(text: Text, line: &[u8]) -> Text
+    ensures { λ r. ⌜ r ≡ writes text (wordsText (now (line .entry))) ⌝ }
+{
+    let k = sentences::place_of(parts::part(line, SPACE, 0));
+    if k == sentences::OPENING {
+        return asides::opening(text, line);
+    }
+    if k == sentences::MASTER {
+        return asides::master(text, line);
+    }
+    if k == sentences::TICKS {
+        return asides::ticks(text, line);
+    }
+    command(text, line)
+}
+
+// A line that is too long.
+pub fn overlong(text: Text, line: &[u8]) -> Text
+    ensures { λ r. ⌜ r ≡ writes text (overlongText (now (line .entry))) ⌝ }
+{
+    let first = loud(block::front(line, LOOKED_AT));
+    sentences::question(text, parts::part(first, SPACE, 0))
+}

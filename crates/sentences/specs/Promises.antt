@@ -1,0 +1,100 @@
+-- What the entries promise beside what they write: each word has its place, the tables fit each other, and what the
+-- nearest form is without the search for it.
+use Prim.Native.Nat.{ℕ, zero, suc, _≤_, _<_}
+use mathlib.Core.Bool.{Bool, true, false, cond}
+use mathlib.Core.List.{List, [], _++_}
+use mathlib.Core.Path.{_≡_}
+use Rattle.text.specs.Parts.{part, parts, same}
+use Rattle.machine.specs.Calls.{chars}
+use Rattle.sentences.specs.Sentences.{
+  sentences,
+  states,
+  keywords,
+  forms,
+  shared,
+  closest,
+  placeOf,
+  start,
+  travel,
+  position,
+  dwell,
+  watch,
+  polarity,
+  low,
+  high,
+  outputs,
+  speed,
+  slope,
+  distance,
+  stop,
+  status,
+  everything,
+  inputs,
+  clear,
+  reset,
+  opening,
+  master,
+  ticks,
+}
+
+-- Each word is found at its place.
+pub record Places : Type 0 where
+  pub start-is : placeOf (chars "start") ≡ start
+  pub travel-is : placeOf (chars "travel") ≡ travel
+  pub position-is : placeOf (chars "position") ≡ position
+  pub dwell-is : placeOf (chars "dwell") ≡ dwell
+  pub watch-is : placeOf (chars "watch") ≡ watch
+  pub polarity-is : placeOf (chars "polarity") ≡ polarity
+  pub low-is : placeOf (chars "low") ≡ low
+  pub high-is : placeOf (chars "high") ≡ high
+  pub outputs-is : placeOf (chars "outputs") ≡ outputs
+  pub speed-is : placeOf (chars "speed") ≡ speed
+  pub slope-is : placeOf (chars "slope") ≡ slope
+  pub distance-is : placeOf (chars "distance") ≡ distance
+  pub stop-is : placeOf (chars "stop") ≡ stop
+  pub status-is : placeOf (chars "status") ≡ status
+  pub everything-is : placeOf (chars "everything") ≡ everything
+  pub inputs-is : placeOf (chars "inputs") ≡ inputs
+  pub clear-is : placeOf (chars "clear") ≡ clear
+  pub reset-is : placeOf (chars "reset") ≡ reset
+  pub opening-is : placeOf (chars "opening") ≡ opening
+  pub master-is : placeOf (chars "master") ≡ master
+  pub ticks-is : placeOf (chars "ticks") ≡ ticks
+
+-- Whether each of the first n rows of a table has something in it.
+unfoldable pub filled : ℕ → List ℕ → Bool
+filled zero table = true
+filled (suc n) table = cond (same (part 10 n table) []) false (filled n table)
+
+-- Whether each of the first n forms begins with its word: what stands before the first space is the row of words.
+unfoldable pub formsBegin : ℕ → Bool
+formsBegin zero = true
+formsBegin (suc n) = cond (same (part 32 0 (part 10 n forms)) (part 10 n keywords)) (formsBegin n) false
+
+-- The words at the places 0 to n in order, a comma and a space between two of them.
+unfoldable pub allWords : ℕ → List ℕ
+allWords zero = part 10 0 keywords
+allWords (suc n) = allWords n ++ (chars ", " ++ part 10 (suc n) keywords)
+
+-- The tables fit each other. A table has one part more than rows, for a line feed stands behind each row: 21 words, 22
+-- forms, 25 sentences (0 to 24), 8 states, none of them empty; each form begins with its word, the last is all words.
+pub record Tables : Type 0 where
+  pub keyword-parts : parts 10 keywords ≡ 22
+  pub form-parts : parts 10 forms ≡ 23
+  pub sentence-parts : parts 10 sentences ≡ 26
+  pub state-parts : parts 10 states ≡ 9
+  pub keywords-filled : filled 21 keywords ≡ true
+  pub forms-filled : filled 22 forms ≡ true
+  pub sentences-filled : filled 25 sentences ≡ true
+  pub states-filled : filled 8 states ≡ true
+  pub forms-begin : formsBegin 21 ≡ true
+  pub forms-end : part 10 21 forms ≡ allWords 20
+
+-- The place whose form answers a word w: no place has more first letters in common with w, each one before it has
+-- fewer, and it has at least one; place 21, of no word, only where no place has any.
+pub record Nearest (w : List ℕ) : Type 0 where
+  pub within : closest 21 w ≤ 21
+  pub best : (k : ℕ) → k < 21 → shared k w ≤ shared (closest 21 w) w
+  pub first : closest 21 w < 21 → (k : ℕ) → k < closest 21 w → shared k w < shared (closest 21 w) w
+  pub some : closest 21 w < 21 → 0 < shared (closest 21 w) w
+  pub none : closest 21 w ≡ 21 → (k : ℕ) → k < 21 → shared k w ≡ 0

@@ -1,0 +1,4 @@
+pub mod DecimalLaws
+pub mod LengthLaws
+pub mod PartLaws
+pub mod TextLaws

@@ -1,0 +1,68 @@
+//! From words: every example line of the section, in the order of the page.
+
+use super::lines::Lines;
+
+/// From words, first table, and the examples under it.
+const COMMANDS: [&str; 23] = [
+    "start 0",
+    "start 0 after dwell",
+    "travel 2",
+    "position 1",
+    "dwell 20",
+    "watch 3",
+    "polarity 003",
+    "low 00010",
+    "high 01000",
+    "outputs ABCDEF",
+    "speed 2500.25",
+    "slope 1250",
+    "distance 2 -5000",
+    "stop",
+    "status",
+    "everything",
+    "inputs",
+    "clear",
+    "reset",
+    "silent stop",
+    "stop as A",
+    "dwell 16384",
+    "speed 0.3",
+];
+
+/// From words, second table.
+const PROGRAM_WORDS: [&str; 4] = ["opening", "master 5 2 3 0 0", "ticks 1000", "ticks 1000 000010"];
+
+/// From words, replies, and the status that is told under their table.
+const REPLIES: [&str; 20] = [
+    "U0000000",
+    "U000000E",
+    "S0281388",
+    "S0000005",
+    "S0600009",
+    "S0800000",
+    "S0880000",
+    "S0900000",
+    "S0A00000",
+    "S0B1FA00",
+    "S0D00010",
+    "S0E01000",
+    "s01FFFFF",
+    "R0000012",
+    "SA281388",
+    "S02813887",
+    "UA00000EB",
+    "S0700000",
+    "1 -1 0 0 0",
+    "S0600000",
+];
+
+/// From words, nearest forms.
+const NEAREST: [&str; 5] = ["Speed 5", "strt 0", "silent ticks 5", "help", "?"];
+
+/// From words: the examples.
+pub(super) fn examples(lines: &mut Lines) {
+    lines.each(&COMMANDS);
+    lines.each(&PROGRAM_WORDS);
+    lines.each(&REPLIES);
+    lines.each(&NEAREST);
+}
