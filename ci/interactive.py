@@ -1,10 +1,11 @@
 #!/usr/bin/env python3
-"""One line, its whole reply, then the next line: ci/interactive.py [program ...], by default target/bin/bench
+"""One line, its whole reply, then the next line: ci/interactive.py [program ...], by default those of target/bin
 
-Lines and replies are those of stored sessions (ci/outputs.sh holds them to the reference). A program that waits for
-more input before it answers, or ends before its input does, fails here. Every seventh line comes in two pieces. The
-last line of a session comes without its line feed, and is answered once the input is closed. Then what docs/PROTOCOL.md
-says of an output that is closed and of an input that is not ready. Exit 1, naming what was to come and what came.
+A program is known by its name, bench or desk. Lines and replies are stored ones (ci/outputs.sh holds them to the
+reference): sessions for bench, crates/desk/stdin for desk. A program that waits for more input before it answers, or
+ends before its input does, fails here. Every seventh line comes in two pieces. The last line comes without its line
+feed, and is answered once the input is closed. Then what docs/PROTOCOL.md says of an output that is closed and of an
+input that is not ready. Exit 1, naming what was to come and what came.
 """
 import os
 import re
@@ -23,7 +24,6 @@ SESSIONS = ["protocol.in", "refusals.in", "readings.in", "stops.in", "dwell.in",
 WAITING = re.compile(rb"W[04]([0-9A-Fa-f]{6}[0-9A-F]?)?\n?")  # an accepted W line: a T line gives its block
 LIMIT = 20  # seconds for a reply
 PAUSE = 0.01  # seconds in which nothing may be printed
-STOPPED = b"bench: stopped, input or output failed\n"
 
 
 class Wrong(Exception):
@@ -48,7 +48,28 @@ def exchanges(name):
         raise Wrong(f"{name}: {len(replies)} stored replies belong to no line")
 
 
-class Bench:
+def bench_sessions():
+    """Each stored session with its exchanges."""
+    for name in SESSIONS:
+        yield name, list(exchanges(name))
+
+
+def desk_sessions():
+    """The stored lines of the desk, each answered by one line."""
+    lines, answers = (BytesIO(Path("crates/desk", name).read_bytes()).readlines() for name in ("stdin", "stdout"))
+    if len(lines) != len(answers):
+        raise Wrong(f"{len(lines)} stored lines have {len(answers)} answers")
+    yield "crates/desk/stdin", list(zip(lines, answers))
+
+
+# What each program is given: its sessions, and a line with its reply before it is made to stop.
+PROGRAMS = {
+    "bench": (bench_sessions, b"Q06\n", b"S0600000\n"),
+    "desk": (desk_sessions, b"status\n", b"Q0600000\n"),
+}
+
+
+class Running:
     """The program with a pipe at each end."""
 
     def __init__(self, program, **kept):
@@ -89,45 +110,46 @@ class Bench:
             raise Wrong(f"{case}: the program ended with status {ended}, printed {left!r} last and said {told!r}")
 
 
-def sessions(program):
+def sessions(program, stored_sessions):
     """Every session line by line. Returns the number of lines."""
     lines = 0
-    for name in SESSIONS:
-        bench = Bench(program)
-        *told, (last, end) = exchanges(name)
+    for name, exchanged in stored_sessions():
+        running = Running(program)
+        *told, (last, end) = exchanged
         for line, reply in told:
             lines += 1
             if lines % 7 == 0 and len(line) > 1:
-                bench.give(line[:-2])
-                bench.quiet(line[:-2])
-                bench.give(line[-2:])
+                running.give(line[:-2])
+                running.quiet(line[:-2])
+                running.give(line[-2:])
             else:
-                bench.give(line)
-            bench.expect(line, reply)
+                running.give(line)
+            running.expect(line, reply)
             if not reply:
-                bench.quiet(line)
-        bench.give(last.rstrip(b"\n"))
-        bench.quiet(last)
-        bench.process.stdin.close()
-        bench.expect(last, end)
-        bench.over(name, 0)
+                running.quiet(line)
+        running.give(last.rstrip(b"\n"))
+        running.quiet(last)
+        running.process.stdin.close()
+        running.expect(last, end)
+        running.over(name, 0)
     return lines
 
 
-def stops(program):
+def stops(program, line, reply):
     """Three ways to stop before the end of the input, which stays open."""
+    stopped = f"{os.path.basename(program)}: stopped, input or output failed\n".encode()
     for case, ignored in [("output closed", False), ("output closed, SIGPIPE ignored", True)]:
-        bench = Bench(program, stderr=PIPE, restore_signals=not ignored)
-        bench.process.stdout.close()
-        bench.process.stdout = None
-        bench.give(b"Q06\n")
-        bench.over(case, *((0, STOPPED) if ignored else (-signal.SIGPIPE, b"")))
+        running = Running(program, stderr=PIPE, restore_signals=not ignored)
+        running.process.stdout.close()
+        running.process.stdout = None
+        running.give(line)
+        running.over(case, *((0, stopped) if ignored else (-signal.SIGPIPE, b"")))
     end, other = os.pipe()
     os.set_blocking(end, False)
-    os.write(other, b"Q06\nQ0")
-    bench = Bench(program, stdin=end, stderr=PIPE)
-    bench.expect(b"Q06\n", b"S0600000\n")
-    bench.over("input not ready", 0, STOPPED)
+    os.write(other, line + line[:2])
+    running = Running(program, stdin=end, stderr=PIPE)
+    running.expect(line, reply)
+    running.over("input not ready", 0, stopped)
     os.close(end)
     os.close(other)
 
@@ -135,10 +157,13 @@ def stops(program):
 def main():
     programs = [os.path.abspath(program) for program in sys.argv[1:]]
     os.chdir(Path(__file__).resolve().parent.parent)
-    for program in programs or [os.path.abspath("target/bin/bench")]:
+    for program in programs or [os.path.abspath(f"target/bin/{name}") for name in PROGRAMS]:
         try:
-            lines = sessions(program)
-            stops(program)
+            if os.path.basename(program) not in PROGRAMS:
+                raise Wrong(f"a program of another name than {' or '.join(PROGRAMS)}")
+            stored_sessions, line, reply = PROGRAMS[os.path.basename(program)]
+            lines = sessions(program, stored_sessions)
+            stops(program, line, reply)
         except Wrong as wrong:
             print(f"interactive: {os.path.relpath(program)}: {wrong}")
             return 1

@@ -2,13 +2,15 @@
 """Checks docs/PROTOCOL.md against the stored session protocol.in: ci/protocol.py
 
 The page's last block is that session, `> ` a request and `< ` each line of its reply. A row of a table that ends in a
-request and a reply must stand in it as such, and so must each status. Exit 1, naming what does not.
+request and a reply must stand in it as such, and so must each status. The section "From words" has rows of another
+kind: ci/words.py checks it. Exit 1, naming what does not stand there.
 """
 import re
 import sys
 from pathlib import Path
 
 import stored
+import words
 
 ROW = re.compile(r"\| `([^`]+)` \| `([^`]+)` \|$")
 STATUS = re.compile(r"\| `(S06[0-9A-F]{5})`[^|]*\|$")
@@ -35,7 +37,7 @@ def main():
         wrong.append("the replies are not those stored for protocol.in")
     pairs = {(request, line) for request, reply in told for line in reply}
     rows = 0
-    for number, line in enumerate(page.splitlines(), 1):
+    for number, line in words.numbered(page, within=False):
         row, status = ROW.search(line), STATUS.search(line)
         asked = row.groups() if row else ("Q06", status.group(1)) if status else None
         rows += asked is not None

@@ -1,7 +1,7 @@
 #!/usr/bin/env bash
-# Every stored session on the bench program, at once and in pieces of 7 bytes, against its stored output; then line by
-# line (ci/interactive.py).
-# It runs target/bin/bench, which `rt check bench` proves and builds.
+# Every stored session on the bench program, at once and in pieces of 7 bytes, against its stored output; then the bench
+# program and the desk line by line (ci/interactive.py), and a recipe through both (ci/recipe.sh).
+# It runs target/bin/bench and target/bin/desk, which `rt check bench desk` proves and builds.
 set -eu
 cd "$(dirname "$0")/.."
 # The replies that are stored for a session.
@@ -25,3 +25,4 @@ for input in docs/*.in crates/bench/stdin $sessions; do
 done
 echo "sessions: the bench program prints every stored output"
 python3 ci/interactive.py
+bash ci/recipe.sh

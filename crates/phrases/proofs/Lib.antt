@@ -1,1 +1,3 @@
 pub mod PhraseLaws
+pub mod SameLineLaws
+pub mod TickLineLaws

@@ -18,7 +18,7 @@ use Rattle.sentences.specs.Sentences.{turnedText}
 use Rattle.phrases.specs.Phrases.{lineText}
 
 -- No line is longer than 10.
-line-most : (r : Request) → length (lineOf r) ≤ 10
+pub line-most : (r : Request) → length (lineOf r) ≤ 10
 unfolding lineOf
 line-most r =
     by-bool (λ (l : List ℕ). length l ≤ 10) (isQuery (r .command)) _ _ (λ _. omega arith) (λ _. block-most _)

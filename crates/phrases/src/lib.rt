@@ -15,6 +15,7 @@ ghost use Rattle.phrases.specs.Phrases.{
   wordsText,
   overlongText,
 };
+ghost use Rattle.phrases.specs.Promises.{SameLine, TickLine};
 use crate::meaning::Meant;
 use crate::meaning::SPACE;
 use digits::END;
@@ -139,6 +140,8 @@ fn command(text: Text, line: &[u8]) -> Text
 // A line of words.
 pub fn words(text: Text, line: &[u8]) -> Text
     ensures { λ r. ⌜ r ≡ writes text (wordsText (now (line .entry))) ⌝ }
+    ensures { λ _. ⌜ SameLine ⌝ }
+    ensures { λ _. ⌜ TickLine ⌝ }
 {
     let k = sentences::place_of(parts::part(line, SPACE, 0));
     if k == sentences::OPENING {

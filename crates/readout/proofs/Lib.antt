@@ -1,1 +1,3 @@
 pub mod ReadoutLaws
+pub mod ReplyLaws
+pub mod Lengths

@@ -1,1 +1,2 @@
 pub mod Readout
+pub mod Promises

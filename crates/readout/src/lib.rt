@@ -8,6 +8,7 @@ ghost use Rattle.digits.specs.Digits.{digitOf, endByte};
 ghost use Rattle.reader.specs.Reader.{figuresOf, readOf};
 ghost use Rattle.text.specs.Text.{writes};
 ghost use Rattle.readout.specs.Readout.{isLetter, isSwitch, isBlock, figureText, blockText};
+ghost use Rattle.readout.specs.Promises.{RepliesTold, Fits};
 use digits::Digit;
 use digits::END;
 use reader::reading::Reading;
@@ -153,9 +154,12 @@ fn figure(text: Text, reading: Reading) -> Text
     }
 }
 
-// A block in words, or 20 with its sentence.
+// A block in words, or 20 with its sentence. That every reply block is taken for one and told by its figures, and that
+// no answer is long, stand here as promises.
 pub fn block(text: Text, line: &[u8]) -> Text
     ensures { λ r. ⌜ r ≡ writes text (blockText (now (line .entry))) ⌝ }
+    ensures { λ _. ⌜ RepliesTold ⌝ }
+    ensures { λ _. ⌜ Fits ⌝ }
 {
     let reading = read(line);
     figure(text, reading)

@@ -1,3 +1,4 @@
 pub mod Places
 pub mod TableLaws
 pub mod NearestLaws
+pub mod Lengths

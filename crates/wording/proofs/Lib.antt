@@ -1,1 +1,4 @@
+pub mod PageLaws
+pub mod WholeLaws
 pub mod WordingLaws
+pub mod WordsLengths

@@ -60,7 +60,7 @@ front-seam a b n e =
     ap (frontOf (a ++ b)) e
     ∙ rw (le-leb (length a) (length (a ++ b)) (omega (arith, length-append a b))) (take-append-seam a b)
 
-held-line : (l : List ℕ) → heldLine (deskOf l) ≡ take 250 l
+pub held-line : (l : List ℕ) → heldLine (deskOf l) ≡ take 250 l
 held-line l = front-seam (take 250 l) (replicate (250 - length l) 0) (min 250 (length l)) (sym (length-take 250 l))
 
 -- ---- the answer to it
@@ -86,7 +86,7 @@ answer-held l = ap (λ (x : List ℕ). x ++ (10 ∷ [])) (ap answerText (held-li
 
 -- ---- a byte, and the end of the input
 
-taken-held : (l : List ℕ) (b : ℕ) → takenOf (deskOf l) b ≡ takenBy l b
+pub taken-held : (l : List ℕ) (b : ℕ) → takenOf (deskOf l) b ≡ takenBy l b
 taken-held l b = when (eqb b 10)
   where
     told : Desk → List ℕ → Taken
@@ -108,7 +108,7 @@ none-held n =
     (λ (h : n ≡ 0). ap (λ (k : ℕ). eqb (min 250 k) 0) h ∙ sym (ap (λ (k : ℕ). eqb k 0) h))
     (λ h. ne-eqb (min 250 n) 0 (λ (q : min 250 n ≡ 0). h (omega (arith, q))) ∙ sym (ne-eqb n 0 h))
 
-finished-held : (l : List ℕ) → finishedOf (deskOf l) ≡ finishedBy l
+pub finished-held : (l : List ℕ) → finishedOf (deskOf l) ≡ finishedBy l
 finished-held l = λ i. cond (none-held (length l) i) (holding []) (holding (answer-held l i))
 
 pub finished-desk : (d : Desk) (r : Text) → r ≡ finishedOf d → Desks d (λ l. r ≡ finishedBy l)

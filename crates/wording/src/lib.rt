@@ -4,6 +4,8 @@
 ghost use mathlib.Core.List.{[]};
 ghost use mathlib.Core.Path.{_≡_};
 ghost use Rattle.text.specs.Text.{holding, writes};
+ghost use Rattle.wording.specs.Page.{Page};
+ghost use Rattle.wording.specs.Promises.{Whole, Answers};
 ghost use Rattle.wording.specs.Wording.{
   isSigned,
   isSumAt,
@@ -111,18 +113,22 @@ fn answer_text(text: Text, line: &[u8]) -> Text
     phrases::words(text, line)
 }
 
-// The answer to a line, with its line feed.
+// The answer to a line, with its line feed. That no answer is cut, and the examples of docs/PROTOCOL.md, stand here as
+// promises.
 pub fn answer(line: &[u8]) -> Text
     ensures { λ r. ⌜ r ≡ holding (answerOf (now (line .entry))) ⌝ }
+    ensures { λ _. ⌜ Whole ⌝ }
+    ensures { λ _. ⌜ Page ⌝ }
 {
     let text = answer_text(Text::new(), line);
     text.with(FEED)
 }
 
 impl Desk {
-    // No character.
+    // No character. What a desk prints to a whole input stands here as a promise.
     pub fn new() -> Desk
         ensures { λ r. ⌜ r ≡ deskOf [] ⌝ }
+        ensures { λ _. ⌜ Answers ⌝ }
     {
         let line = Text::new();
         Desk { line }

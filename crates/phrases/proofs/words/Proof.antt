@@ -1,4 +1,4 @@
--- A line of words by the place of its first. Assumes nothing.
+-- A line of words by the place of its first, and what holds of every line that is printed. Assumes nothing.
 use Prim.Native.Nat.{ℕ}
 use mathlib.Core.Path.{_≡_, refl, ap, _∙_}
 use mathlib.Core.List.{List}
@@ -7,6 +7,9 @@ use Rattle.text.specs.Text.{writes}
 use Rattle.text.specs.declared.Text.{Text}
 use Rattle.sentences.specs.Sentences.{placeOf}
 use Rattle.phrases.specs.Phrases.{textAt, wordsText}
+use Rattle.phrases.specs.Promises.{SameLine, TickLine}
+use Rattle.phrases.proofs.SameLineLaws.{same-line}
+use Rattle.phrases.proofs.TickLineLaws.{tick-line}
 use borrow.Author.Needs.{needs}
 use Rattle.phrases.proofs.words.Statement.{statement}
 use Rattle.phrases.proofs.words.Tie as tie
@@ -14,16 +17,18 @@ use Rattle.phrases.proofs.words.Tie as tie
 abbrev start : tie.After-place-of → tie.Start
 start w = w .before .before .before
 
--- What is printed is the text at the place that was found.
+-- What is printed is the text at the place that was found, with both promises.
 placed : (w : tie.After-place-of) {r : Text} {a : List ℕ} → r ≡ writes (start w .args .text) a
     → a ≡ textAt (w .place-of .result) (start w .args .line .now)
-    → r ≡ writes (start w .args .text) (wordsText (start w .args .line .now))
+    → (r ≡ writes (start w .args .text) (wordsText (start w .args .line .now))) × (SameLine × TickLine)
 unfolding wordsText
 placed w p q =
-    let l = start w .args .line .now in
-    p
-    ∙ ap (writes (start w .args .text))
-    (q ∙ ap (λ (k : ℕ). textAt k l) (w .place-of .ensures .0 ∙ ap placeOf (w .before .part .ensures)))
+    let l = start w .args .line .now in (
+      p
+          ∙ ap (writes (start w .args .text))
+          (q ∙ ap (λ (k : ℕ). textAt k l) (w .place-of .ensures .0 ∙ ap placeOf (w .before .part .ensures))),
+      (same-line, tick-line),
+    )
 
 part-requires : tie.Need-part-requires
 part-requires c κs = search needs

@@ -5,6 +5,8 @@ use Rattle.text.specs.Text.{holding, writes}
 use Rattle.text.specs.declared.Text.{Text}
 use Rattle.text.proofs.TextLaws.{writes-last, writes-holding}
 use Rattle.wording.specs.Wording.{answerText, answerOf}
+use Rattle.wording.proofs.PageLaws.{page}
+use Rattle.wording.proofs.WholeLaws.{whole}
 use borrow.Author.Needs.{needs}
 use Rattle.wording.proofs.answer.Statement.{statement}
 use Rattle.wording.proofs.answer.Tie as tie
@@ -20,11 +22,13 @@ with-requires c κs = search needs
 
 returns : tie.Need-returns
 returns c =
-    let l = c .before .before .before .before .args .line .now in
-    writes-last (holding []) (answerText l) 10
-    (c .before .answer-text .ensures
-    ∙ ap (λ (t : Text). writes t (answerText l)) (c .before .before .new .ensures)) (c .with .ensures)
-    ∙ writes-holding [] (answerOf l)
+    let l = c .before .before .before .before .args .line .now in (
+      writes-last (holding []) (answerText l) 10
+          (c .before .answer-text .ensures
+          ∙ ap (λ (t : Text). writes t (answerText l)) (c .before .before .new .ensures)) (c .with .ensures)
+          ∙ writes-holding [] (answerOf l),
+      (whole, page),
+    )
 
 pub answer-spec : {M : Type 1} → statement M
 answer-spec = tie.close (tie.spec new-requires answer-text-requires with-requires returns)

@@ -29,7 +29,7 @@ block-requires c κs = search needs
 returns-2 : tie.Need-returns-2
 returns-2 c =
     let s = c .before .before .before .before .before .args in
-    c .block .ensures
+    c .block .ensures .0
     ∙ ap (λ (x : List ℕ). writes (s .text) x)
     (sym (block-is (s .line .now) (omega (arith, c .before .before .before .if1 .left))
     (sym (c .before .before .is-block .ensures) ∙ c .before .if2 .taken)))
@@ -63,7 +63,7 @@ returns-4 : tie.Need-returns-4
 returns-4 c =
     let s = c .before .before .before .before .before .before .before .args in
     let w = c .before in
-    c .words .ensures
+    c .words .ensures .0
     ∙ ap (λ (x : List ℕ). writes (s .text) x)
     (sym (words-are (s .line .now) (omega (arith, w .before .before .before .before .if1 .left))
     (sym (w .before .before .before .is-block .ensures) ∙ w .before .before .if2 .left)

@@ -22,7 +22,7 @@ answer-requires c κs = search needs
 
 returns : tie.Need-returns
 returns c =
-    c .answer .ensures ∙ ap (λ (l : List ℕ). holding (answerOf l)) (c .before .front .ensures)
+    c .answer .ensures .0 ∙ ap (λ (l : List ℕ). holding (answerOf l)) (c .before .front .ensures)
 
 pub answered-spec : {M : Type 1} → statement M
 answered-spec =

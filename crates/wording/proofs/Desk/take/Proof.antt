@@ -18,7 +18,7 @@ returns : tie.Need-returns
 returns c =
     let s = c .before .before .before .args in
     let e : _ ≡ takenOf (s .self) (s .b) = on-eq (s .b) 10 _ _ _ (c .before .before .if1 .taken)
-    (λ i. record { desk = c .new .ensures i; text = c .before .answered .ensures i }) in
+    (λ i. record { desk = c .new .ensures .0 i; text = c .before .answered .ensures i }) in
     (e, taken-desk (s .self) (s .b) _ e)
 
 with-requires : tie.Need-with-requires

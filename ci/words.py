@@ -1,0 +1,147 @@
+#!/usr/bin/env python3
+"""Checks the section "From words" of docs/PROTOCOL.md: ci/words.py
+
+Examples: `X` prints `Y`, or `X` is `Y`, in the text, and each row of a table, its first cell X and its last Y in
+backticks. X must be a line of crates/desk/stdin and Y its answer, the line at the same place of crates/desk/stdout.
+Fixed words: the table of sentences, the words and forms in the tables of words, and what the text says of a status must
+be those of crates/sentences/specs/Sentences.antt, which the desk is proved to say. Exit 1, naming what is not so.
+"""
+import re
+import sys
+from itertools import groupby, zip_longest
+from pathlib import Path
+
+ROOT = Path(__file__).resolve().parent.parent
+SECTION = "## From words"
+DESK, SPEC = "crates/desk", "crates/sentences/specs/Sentences.antt"
+EXAMPLE = re.compile(r"`([^`]+)` (?:prints|is) `([^`]+)`")
+QUOTED = re.compile(r"`([^`]+)`")
+BEGINS = re.compile(r"\||- |\d+\. ")  # a row or an item of a list; any other line goes on with the one before
+STATE = re.compile(r"(?:(\d) )?`([^`]+)`(?: \(bit (\d)\))?")  # what a status says, its bit before or behind it
+FIRST = {"sentences": 0, "states": -1}  # the number of a table's first row; a state has its bit, that of no bit -1
+
+
+def numbered(page, within=True):
+    """Each line of the section, or each line outside it, with its number on the page."""
+    heading = None
+    for number, line in enumerate(page.splitlines(), 1):
+        heading = line if line.startswith("## ") else heading
+        if (heading == SECTION) == within:
+            yield number, line
+
+
+def blocks(page):
+    """Each row, item and paragraph of the section on one line, with the number of its first line."""
+    found = [(0, "")]
+    for number, line in numbered(page):
+        first, text = found[-1]
+        if line and text and not BEGINS.match(line):
+            found[-1] = first, f"{text} {line.strip()}"
+        else:
+            found.append((number, line))
+    return found
+
+
+def tables(parts):
+    """The first cell of each table's head, and its rows: number of the line, and cells."""
+    for is_table, rows in groupby(parts, lambda part: part[1].startswith("|")):
+        if is_table:
+            split = [(number, [cell.strip() for cell in row.strip("|").split("|")]) for number, row in rows]
+            yield split[0][1][0], split[2:]
+
+
+def rows_of(parts, head):
+    """The cells of all rows of the tables whose head begins so."""
+    return [cells for first, rows in tables(parts) if first.startswith(head) for _, cells in rows]
+
+
+def examples(parts):
+    """Each line that is typed with what is printed, and the number of its line; None for a row that has none."""
+    for head, rows in tables(parts):
+        for number, cells in rows if head != "Number" else []:
+            quoted = [QUOTED.fullmatch(cell) for cell in (cells[0], cells[-1])]
+            yield number, tuple(cell.group(1) for cell in quoted) if all(quoted) else None
+    for number, text in parts:
+        for pair in EXAMPLE.findall(text) if not text.startswith("|") else []:
+            yield number, pair
+
+
+def desk(name):
+    """The lines of a file of the desk, whatever bytes they have; the last may lack its line feed."""
+    return (ROOT / DESK / name).read_bytes().removesuffix(b"\n").split(b"\n")
+
+
+def unanswered(shown):
+    """Where an example is not what the stored lines and answers have."""
+    lines, answers = desk("stdin"), desk("stdout")
+    if len(lines) != len(answers):
+        yield f"the {len(lines)} lines of {DESK}/stdin have {len(answers)} answers"
+        return
+    stored = dict(zip(lines, answers))
+    for number, pair in shown:
+        answer = stored.get(pair[0].encode()) if pair else None
+        if pair is None:
+            yield f"line {number}: a row without a line and what is printed"
+        elif answer is None:
+            yield f"line {number}: `{pair[0]}` is no line of {DESK}/stdin"
+        elif answer != pair[1].encode():
+            yield f"line {number}: `{pair[0]}` prints `{answer.decode(errors='replace')}`, not `{pair[1]}`"
+
+
+def forms(parts):
+    """The forms of each word, in the order in which the words first appear."""
+    found = {}
+    for cells in rows_of(parts, "Words"):
+        form = cells[0].strip("`")
+        found.setdefault(form.split(" ")[0], []).append(form)
+    return found
+
+
+def states(parts):
+    """What the text says of a status, each behind its bit."""
+    text = next((text for _, text in parts if text.startswith("- A status")), "")
+    found = STATE.findall(EXAMPLE.sub("", text))
+    told = sorted((int(before or behind or FIRST["states"]), words) for before, words, behind in found)
+    return [f"{bit} {words}" for bit, words in told]
+
+
+def fixed(parts):
+    """What the page says in each table of the specification."""
+    words = forms(parts)
+    return {
+        "sentences": ["0 accepted"] + [" ".join(cells) for cells in rows_of(parts, "Number")],
+        "keywords": list(words),
+        "forms": [", ".join(each) for each in words.values()] + [", ".join(words)],
+        "states": states(parts),
+    }
+
+
+def specified(name):
+    """The rows of a table of the specification: `rows` puts a line feed behind each string, `chars` does not."""
+    body = (ROOT / SPEC).read_text(encoding="utf-8").split(f"\n{name} =\n")[1].split("\n\n")[0]
+    strings = re.findall(r'(chars )?"([^"]*)"', body)
+    found = "".join(string if alone else string + "\n" for alone, string in strings).splitlines()
+    return [f"{number} {row}" for number, row in enumerate(found, FIRST[name])] if name in FIRST else found
+
+
+def differing(told):
+    """The first place where a table is not the specified one."""
+    for name, rows in told.items():
+        for said, row in zip_longest(rows, specified(name), fillvalue="nothing"):
+            if said != row:
+                yield f"{name}: `{said}`, where {SPEC} has `{row}`"
+                break
+
+
+def main():
+    parts = blocks((ROOT / "docs/PROTOCOL.md").read_text(encoding="utf-8"))
+    shown, told = list(examples(parts)), fixed(parts)
+    wrong = [*unanswered(shown), *differing(told)]
+    counts = ", ".join(f"{len(rows)} {name}" for name, rows in told.items())
+    total = f"words: {len(shown)} examples, {counts}, {len(wrong)} wrong"
+    print("\n".join([f"docs/PROTOCOL.md: {w}" for w in wrong] + [total]))
+    return 1 if wrong or not shown else 0
+
+
+if __name__ == "__main__":
+    sys.exit(main())

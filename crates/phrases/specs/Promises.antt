@@ -1,0 +1,56 @@
+-- What `words` promises beside what it writes: the line printed for a command is that command's line, and a printed T
+-- line is to the bench program the ticks that the words ask for.
+use Prim.Native.Nat.{ℕ, _≤_, _<_}
+use mathlib.Core.Bool.{true, false}
+use mathlib.Core.List.{List, [], _∷_, _++_}
+use mathlib.Core.Path.{_≡_}
+use Rattle.digits.specs.Digits.{endByte}
+use Rattle.digits.specs.declared.Number.the-variants.{Value}
+use Rattle.line.specs.declared.command.Command.{Command}
+use Rattle.host.specs.Writer.{hasLine, lineOf}
+use Rattle.host.specs.declared.Request.{Request}
+use Rattle.session.specs.Asked.{ticksBy, askedOf}
+use Rattle.numerals.specs.Numerals.{spelledOf}
+use Rattle.numerals.specs.declared.Spelled.the-variants.{Number}
+use Rattle.sentences.specs.Sentences as K
+use Rattle.phrases.specs.declared.meaning.Meant.the-variants as M
+use Rattle.phrases.specs.Meanings.{word, words, meantBy}
+use Rattle.phrases.specs.Phrases.{
+  isSilent,
+  loudOf,
+  namedOf,
+  bodyOf,
+  lineText,
+  numberAt,
+  tickText,
+  wordsText,
+}
+
+-- The command c as a line of words asks for it: silent or not, with the identification behind ` as ` or none.
+abbrev pub requestIn : List ℕ → Command → Request
+requestIn l c = record { silent = isSilent l; command = c; ident = namedOf (loudOf l) .ident }
+
+-- What is printed for a command, and 0D behind it, is its line and nothing else. With `LineTrip` of crate host (the
+-- controller's own receiver and byte step read `lineOf r` as that very request) it is read as the same command.
+pub record SameLine : Type 0 where
+  -- every request that has a line
+  pub line : (r : Request) → hasLine r ≡ true → lineText r ++ (endByte ∷ []) ≡ lineOf r
+  -- every line of words that means a command, its first word none of those with an answer of their own
+  pub said : (l : List ℕ) (c : Command) → meantBy (bodyOf l) ≡ M.Command c → hasLine (requestIn l c) ≡ true
+      → (K.placeOf (word 0 l) ≡ K.opening → ⊥) → (K.placeOf (word 0 l) ≡ K.master → ⊥)
+      → (K.placeOf (word 0 l) ≡ K.ticks → ⊥) → wordsText l ++ (endByte ∷ []) ≡ lineOf (requestIn l c)
+
+-- The T line that is printed for n ticks with the input word w, read by the bench program's own form (crate session,
+-- `askedOf`), asks for n ticks with w: `ticksBy n (Value w false)` is `Ticks n w`, a case that session alone can name.
+pub record TickLine : Type 0 where
+  -- any number of ticks and any input word that the form takes
+  pub asked : (n w : ℕ) → 1 ≤ n → n ≤ 1000000 → w < 16777216
+      → askedOf (tickText n w) ≡ ticksBy n (Value w false)
+  -- every line of `ticks`, such a number and such an input word
+  pub said : (l : List ℕ) (w : ℕ) → K.placeOf (word 0 l) ≡ K.ticks → words l ≡ 3
+      → 1 ≤ numberAt l 1 → numberAt l 1 ≤ 1000000 → spelledOf 16 (word 2 l) ≡ Number w → w < 16777216
+      → askedOf (wordsText l) ≡ ticksBy (numberAt l 1) (Value w false)
+  -- every line of `ticks` and such a number alone: the input word is 0
+  pub alone : (l : List ℕ) → K.placeOf (word 0 l) ≡ K.ticks → words l ≡ 2
+      → 1 ≤ numberAt l 1 → numberAt l 1 ≤ 1000000
+      → askedOf (wordsText l) ≡ ticksBy (numberAt l 1) (Value 0 false)
