@@ -13,7 +13,8 @@ use Rattle.host.proofs.Lines.{NoEnd, request-lined}
 use Rattle.receiver.specs.Receiver.{before}
 use Rattle.text.specs.Parts.{part}
 use Rattle.text.proofs.PartLaws.{behind-here}
-use Rattle.sentences.specs.Sentences as K
+use Rattle.sentences.specs.Places as K
+use Rattle.sentences.specs.Sentences.{placeOf}
 use Rattle.phrases.specs.declared.meaning.Meant.the-variants as M
 use Rattle.phrases.specs.Meanings.{word, meantBy}
 use Rattle.phrases.specs.Phrases.{
@@ -50,11 +51,11 @@ whole-line r e =
 -- ---- A line of words
 
 -- It is taken as a command, and the command's request is the one in the line.
-commanded : (l : List ℕ) → (K.placeOf (word 0 l) ≡ K.opening → ⊥) → (K.placeOf (word 0 l) ≡ K.master → ⊥)
-    → (K.placeOf (word 0 l) ≡ K.ticks → ⊥) → wordsText l ≡ commandText l
+commanded : (l : List ℕ) → (placeOf (word 0 l) ≡ K.opening → ⊥) → (placeOf (word 0 l) ≡ K.master → ⊥)
+    → (placeOf (word 0 l) ≡ K.ticks → ⊥) → wordsText l ≡ commandText l
 unfolding wordsText
 commanded l a b d =
-    rw (ne-eqb (K.placeOf (word 0 l)) 18 a, ne-eqb (K.placeOf (word 0 l)) 19 b, ne-eqb (K.placeOf (word 0 l)) 20 d)
+    rw (ne-eqb (placeOf (word 0 l)) 18 a, ne-eqb (placeOf (word 0 l)) 19 b, ne-eqb (placeOf (word 0 l)) 20 d)
 
 meant-line : (l : List ℕ) (c : Command) → meantBy (bodyOf l) ≡ M.Command c → commandText l ≡ lineText (requestIn l c)
 unfolding commandText

@@ -18,7 +18,8 @@ use Rattle.text.proofs.DecimalLaws.{decimal-one, decimal-more, more-length}
 use Rattle.session.specs.Asked.{joinOf, readOn, countOf, between, lastSix, ticksBy, askedOf}
 use Rattle.numerals.specs.Numerals.{spelledOf}
 use Rattle.numerals.specs.declared.Spelled.the-variants.{Number}
-use Rattle.sentences.specs.Sentences as K
+use Rattle.sentences.specs.Places as K
+use Rattle.sentences.specs.Sentences.{placeOf}
 use Rattle.phrases.specs.Meanings.{word, words}
 use Rattle.phrases.specs.Phrases.{numberAt, tickText, wordsText}
 use Rattle.phrases.specs.Promises.{TickLine}
@@ -144,7 +145,7 @@ tick-read n w h k l =
 
 -- ---- A line of words
 
-module _ (l : List ℕ) (first : K.placeOf (word 0 l) ≡ K.ticks) (low : 1 ≤ numberAt l 1)
+module _ (l : List ℕ) (first : placeOf (word 0 l) ≡ K.ticks) (low : 1 ≤ numberAt l 1)
     (high : numberAt l 1 ≤ 1000000) where
   said-text : (w : ℕ) → words l ≡ 3 → spelledOf 16 (word 2 l) ≡ Number w → wordsText l ≡ tickText (numberAt l 1) w
   unfolding wordsText

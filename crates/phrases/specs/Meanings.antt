@@ -21,7 +21,8 @@ use Rattle.numerals.specs.declared.Figure.the-variants as F
 use Rattle.figures.specs.Figures.{Answer, speedHz, commandOf}
 use Rattle.figures.specs.declared.Setting.{Setting}
 use Rattle.figures.specs.declared.Setting.the-variants.{Speed, Slope}
-use Rattle.sentences.specs.Sentences as K
+use Rattle.sentences.specs.Places as K
+use Rattle.sentences.specs.Sentences.{placeOf}
 use Rattle.phrases.specs.declared.meaning.Meant.{Meant}
 use Rattle.phrases.specs.declared.meaning.Meant.the-variants as M
 
@@ -150,4 +151,4 @@ meantAt k l =
     M.Nothing)))
 
 unfoldable pub meantBy : List ℕ → Meant
-meantBy l = meantAt (K.placeOf (word 0 l)) l
+meantBy l = meantAt (placeOf (word 0 l)) l

@@ -19,8 +19,8 @@ use Rattle.text.specs.Parts.{part, same}
 use Rattle.numerals.specs.Numerals.{spelledOf}
 use Rattle.numerals.specs.declared.Spelled.{Spelled}
 use Rattle.numerals.specs.declared.Spelled.the-variants as S
-use Rattle.sentences.specs.Sentences as K
-use Rattle.sentences.specs.Sentences.{turnedText, questionText}
+use Rattle.sentences.specs.Places as K
+use Rattle.sentences.specs.Sentences.{turnedText, questionText, placeOf}
 use Rattle.phrases.specs.declared.meaning.Meant.{Meant}
 use Rattle.phrases.specs.declared.meaning.Meant.the-variants as M
 use Rattle.phrases.specs.declared.Named.{Named}
@@ -139,7 +139,7 @@ textAt k l =
     (commandText l)))
 
 unfoldable pub wordsText : List ℕ → List ℕ
-wordsText l = textAt (K.placeOf (word 0 l)) l
+wordsText l = textAt (placeOf (word 0 l)) l
 
 -- Of a line that is too long the first 100 characters are looked at.
 unfoldable pub overlongText : List ℕ → List ℕ

@@ -12,7 +12,8 @@ use Rattle.host.specs.declared.Request.{Request}
 use Rattle.session.specs.Asked.{ticksBy, askedOf}
 use Rattle.numerals.specs.Numerals.{spelledOf}
 use Rattle.numerals.specs.declared.Spelled.the-variants.{Number}
-use Rattle.sentences.specs.Sentences as K
+use Rattle.sentences.specs.Places as K
+use Rattle.sentences.specs.Sentences.{placeOf}
 use Rattle.phrases.specs.declared.meaning.Meant.the-variants as M
 use Rattle.phrases.specs.Meanings.{word, words, meantBy}
 use Rattle.phrases.specs.Phrases.{
@@ -37,8 +38,8 @@ pub record SameLine : Type 0 where
   pub line : (r : Request) → hasLine r ≡ true → lineText r ++ (endByte ∷ []) ≡ lineOf r
   -- every line of words that means a command, its first word none of those with an answer of their own
   pub said : (l : List ℕ) (c : Command) → meantBy (bodyOf l) ≡ M.Command c → hasLine (requestIn l c) ≡ true
-      → (K.placeOf (word 0 l) ≡ K.opening → ⊥) → (K.placeOf (word 0 l) ≡ K.master → ⊥)
-      → (K.placeOf (word 0 l) ≡ K.ticks → ⊥) → wordsText l ++ (endByte ∷ []) ≡ lineOf (requestIn l c)
+      → (placeOf (word 0 l) ≡ K.opening → ⊥) → (placeOf (word 0 l) ≡ K.master → ⊥)
+      → (placeOf (word 0 l) ≡ K.ticks → ⊥) → wordsText l ++ (endByte ∷ []) ≡ lineOf (requestIn l c)
 
 -- The T line that is printed for n ticks with the input word w, read by the bench program's own form (crate session,
 -- `askedOf`), asks for n ticks with w: `ticksBy n (Value w false)` is `Ticks n w`, a case that session alone can name.
@@ -47,10 +48,10 @@ pub record TickLine : Type 0 where
   pub asked : (n w : ℕ) → 1 ≤ n → n ≤ 1000000 → w < 16777216
       → askedOf (tickText n w) ≡ ticksBy n (Value w false)
   -- every line of `ticks`, such a number and such an input word
-  pub said : (l : List ℕ) (w : ℕ) → K.placeOf (word 0 l) ≡ K.ticks → words l ≡ 3
+  pub said : (l : List ℕ) (w : ℕ) → placeOf (word 0 l) ≡ K.ticks → words l ≡ 3
       → 1 ≤ numberAt l 1 → numberAt l 1 ≤ 1000000 → spelledOf 16 (word 2 l) ≡ Number w → w < 16777216
       → askedOf (wordsText l) ≡ ticksBy (numberAt l 1) (Value w false)
   -- every line of `ticks` and such a number alone: the input word is 0
-  pub alone : (l : List ℕ) → K.placeOf (word 0 l) ≡ K.ticks → words l ≡ 2
+  pub alone : (l : List ℕ) → placeOf (word 0 l) ≡ K.ticks → words l ≡ 2
       → 1 ≤ numberAt l 1 → numberAt l 1 ≤ 1000000
       → askedOf (wordsText l) ≡ ticksBy (numberAt l 1) (Value 0 false)

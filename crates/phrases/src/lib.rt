@@ -22,11 +22,13 @@ use digits::END;
 use digits::Ident;
 use host::Request;
 use host::Written;
+use sentences::places;
 use text::Text;
 use text::parts;
 
 mod asides;
 mod meaning;
+mod single;
 
 // The characters of an over-long line that are looked at.
 const LOOKED_AT: usize = 100;
@@ -144,13 +146,13 @@ pub fn words(text: Text, line: &[u8]) -> Text
     ensures { λ _. ⌜ TickLine ⌝ }
 {
     let k = sentences::place_of(parts::part(line, SPACE, 0));
-    if k == sentences::OPENING {
+    if k == places::OPENING {
         return asides::opening(text, line);
     }
-    if k == sentences::MASTER {
+    if k == places::MASTER {
         return asides::master(text, line);
     }
-    if k == sentences::TICKS {
+    if k == places::TICKS {
         return asides::ticks(text, line);
     }
     command(text, line)

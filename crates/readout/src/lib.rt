@@ -14,6 +14,7 @@ use digits::END;
 use reader::reading::Reading;
 use text::Text;
 
+mod orders;
 mod told;
 
 // The characters of a block with an identification, its 0D not counted.
@@ -131,7 +132,7 @@ fn figure(text: Text, reading: Reading) -> Text
             digits,
             ident,
         } => {
-            let said = told::echo(text, digits);
+            let said = orders::echo(text, digits);
             told::owner(said, switch, ident)
         }
         Reading::Placed {

@@ -13,17 +13,12 @@ ghost use Rattle.readout.specs.Readout.{
   bitText,
   bitsText,
   statusText,
-  startText,
-  orderText,
-  echoText,
   positionText,
   inputsText,
   switchText,
   identText,
   ownerText,
 };
-use digits::FIVE_DIGITS;
-use digits::FOUR_DIGITS;
 use digits::Ident;
 use digits::TOP_BIT;
 use reply::Position;
@@ -104,53 +99,6 @@ pub(crate) fn status(text: Text, status: u8) -> Text
     let mark = number.characters(b": ");
     let moves = motion(mark, status);
     bits(moves, status)
-}
-
-// S 8, by the second digit.
-fn start(text: Text, d: u32) -> Text
-    ensures { λ r. ⌜ r ≡ writes text (startText d) ⌝ }
-{
-    let word = text.characters(b"start ");
-    let master = word.decimal(d % 8);
-    if d < 8 {
-        return master;
-    }
-    master.characters(b" after dwell")
-}
-
-// An order in words, by its six digits.
-fn order(text: Text, n: u32) -> Text
-    ensures { λ r. ⌜ r ≡ writes text (orderText n) ⌝ }
-{
-    let k = n / FIVE_DIGITS;
-    let five = n % FIVE_DIGITS;
-    if k == 8 {
-        return start(text, five / FOUR_DIGITS);
-    }
-    if k == 9 {
-        return text.characters(b"stop");
-    }
-    if k == 10 {
-        return text.characters(b"clear");
-    }
-    if k == 11 {
-        return text.characters(b"reset");
-    }
-    if k == 13 {
-        let low = text.characters(b"low ");
-        return low.six(five);
-    }
-    let high = text.characters(b"high ");
-    high.six(five)
-}
-
-// S of an order.
-pub(crate) fn echo(text: Text, n: u32) -> Text
-    ensures { λ r. ⌜ r ≡ writes text (echoText n) ⌝ }
-{
-    let word = sentences::sentence(text, 0);
-    let mark = word.characters(b": ");
-    order(mark, n)
 }
 
 // A position with its sign.

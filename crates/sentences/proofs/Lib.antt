@@ -1,4 +1,4 @@
-pub mod Places
+pub mod PlaceLaws
 pub mod TableLaws
 pub mod NearestLaws
 pub mod Lengths

@@ -6,36 +6,8 @@ use mathlib.Core.List.{List, [], _++_}
 use mathlib.Core.Path.{_≡_}
 use Rattle.text.specs.Parts.{part, parts, same}
 use Rattle.machine.specs.Calls.{chars}
-use Rattle.sentences.specs.Sentences.{
-  sentences,
-  states,
-  keywords,
-  forms,
-  shared,
-  closest,
-  placeOf,
-  start,
-  travel,
-  position,
-  dwell,
-  watch,
-  polarity,
-  low,
-  high,
-  outputs,
-  speed,
-  slope,
-  distance,
-  stop,
-  status,
-  everything,
-  inputs,
-  clear,
-  reset,
-  opening,
-  master,
-  ticks,
-}
+use Rattle.sentences.specs.Places.{start, travel, position, dwell, watch, polarity, low, high, outputs, speed, slope, distance, stop, status, everything, inputs, clear, reset, opening, master, ticks}
+use Rattle.sentences.specs.Sentences.{sentences, states, keywords, forms, shared, closest, placeOf}
 
 -- Each word is found at its place.
 pub record Places : Type 0 where

@@ -1,3 +1,4 @@
+pub mod MeantLengths
 pub mod PageLaws
 pub mod WholeLaws
 pub mod WordingLaws

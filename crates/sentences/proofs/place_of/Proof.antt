@@ -4,7 +4,7 @@ use mathlib.Core.Path.{_≡_, refl, sym, ap, _∙_}
 use native.Mathlib.Omega.{arith}
 use native.Mathlib.Numerals.{add-one}
 use Rattle.sentences.specs.Sentences.{placeIn, orElse}
-use Rattle.sentences.proofs.Places.{places}
+use Rattle.sentences.proofs.PlaceLaws.{places}
 use Rattle.sentences.proofs.place_of.Statement.{statement}
 use Rattle.sentences.proofs.place_of.Tie as tie
 

@@ -1,0 +1,44 @@
+// The places of the words in the table of words.
+
+// The place of each word. A decimal number follows.
+pub const START: usize = 0;
+
+pub const TRAVEL: usize = 1;
+
+pub const POSITION: usize = 2;
+
+pub const DWELL: usize = 3;
+
+pub const WATCH: usize = 4;
+// A hexadecimal number follows.
+pub const POLARITY: usize = 5;
+
+pub const LOW: usize = 6;
+
+pub const HIGH: usize = 7;
+
+pub const OUTPUTS: usize = 8;
+// A figure follows.
+pub const SPEED: usize = 9;
+
+pub const SLOPE: usize = 10;
+// An axis and a distance follow.
+pub const DISTANCE: usize = 11;
+// Nothing follows.
+pub const STOP: usize = 12;
+
+pub const STATUS: usize = 13;
+
+pub const EVERYTHING: usize = 14;
+
+pub const INPUTS: usize = 15;
+
+pub const CLEAR: usize = 16;
+
+pub const RESET: usize = 17;
+// No commands: the host's first line, the master picker, the bench program's ticks.
+pub const OPENING: usize = 18;
+
+pub const MASTER: usize = 19;
+
+pub const TICKS: usize = 20;
