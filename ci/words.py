@@ -3,8 +3,11 @@
 
 Examples: `X` prints `Y`, or `X` is `Y`, in the text, and each row of a table, its first cell X and its last Y in
 backticks. X must be a line of crates/desk/stdin and Y its answer, the line at the same place of crates/desk/stdout.
+An example that fits a line of crates/wording/specs/Page.antt must stand there too, where it is proved.
 Fixed words: the table of sentences, the words and forms in the tables of words, and what the text says of a status must
-be those of crates/sentences/specs/Sentences.antt, which the desk is proved to say. Exit 1, naming what is not so.
+be those of crates/sentences/specs/Sentences.antt, which the desk is proved to say.
+Recipe: its table in README.md has the lines of docs/recipe.txt and docs/recipe.out side by side.
+Exit 1, naming what is not so.
 """
 import re
 import sys
@@ -13,7 +16,9 @@ from pathlib import Path
 
 ROOT = Path(__file__).resolve().parent.parent
 SECTION = "## From words"
-DESK, SPEC = "crates/desk", "crates/sentences/specs/Sentences.antt"
+DESK, SPEC, PAGE = "crates/desk", "crates/sentences/specs/Sentences.antt", "crates/wording/specs/Page.antt"
+ROW = re.compile(r'answerText \(chars "([^"]*)"\)\s+≡ chars "([^"]*)"')
+LONGEST = 110  # of a text that is printed: a longer one has no room in a line of the specification
 EXAMPLE = re.compile(r"`([^`]+)` (?:prints|is) `([^`]+)`")
 QUOTED = re.compile(r"`([^`]+)`")
 BEGINS = re.compile(r"\||- |\d+\. ")  # a row or an item of a list; any other line goes on with the one before
@@ -88,6 +93,22 @@ def unanswered(shown):
             yield f"line {number}: `{pair[0]}` prints `{answer.decode(errors='replace')}`, not `{pair[1]}`"
 
 
+def unproved(shown):
+    """Where an example is none of those that are proved."""
+    proved = set(ROW.findall((ROOT / PAGE).read_text(encoding="utf-8")))
+    for number, pair in shown:
+        if pair and len(pair[1]) <= LONGEST and pair not in proved:
+            yield f"line {number}: `{pair[0]}` with `{pair[1]}` does not stand in {PAGE}"
+
+
+def untold():
+    """Where the recipe in README.md is not the stored one."""
+    stored = [(ROOT / "docs" / f"recipe.{part}").read_text().splitlines() for part in ("txt", "out")]
+    rows = "".join(f"| `{typed}` | `{told}` |\n" for typed, told in zip_longest(*stored, fillvalue=""))
+    if f"|---|---|\n{rows}\n" not in (ROOT / "README.md").read_text(encoding="utf-8"):
+        yield "the recipe in README.md is not docs/recipe.txt and docs/recipe.out"
+
+
 def forms(parts):
     """The forms of each word, in the order in which the words first appear."""
     found = {}
@@ -136,10 +157,10 @@ def differing(told):
 def main():
     parts = blocks((ROOT / "docs/PROTOCOL.md").read_text(encoding="utf-8"))
     shown, told = list(examples(parts)), fixed(parts)
-    wrong = [*unanswered(shown), *differing(told)]
+    wrong = [*unanswered(shown), *unproved(shown), *differing(told), *untold()]
     counts = ", ".join(f"{len(rows)} {name}" for name, rows in told.items())
     total = f"words: {len(shown)} examples, {counts}, {len(wrong)} wrong"
-    print("\n".join([f"docs/PROTOCOL.md: {w}" for w in wrong] + [total]))
+    print("\n".join([f"From words: {w}" for w in wrong] + [total]))
     return 1 if wrong or not shown else 0
 
 

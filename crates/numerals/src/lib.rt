@@ -2,7 +2,16 @@
 // Every public function is total: it has no premise and states its result for every input. Assumes nothing.
 ghost use Prim.Native.Nat.{_≤_, min};
 ghost use mathlib.Core.Path.{_≡_};
-ghost use Rattle.numerals.specs.Numerals.{largest, joinValue, joinOf, spelledOf, signs, hasMinus, signedOf, figureOf};
+ghost use Rattle.numerals.specs.Numerals.{
+  largest,
+  joinValue,
+  joinOf,
+  spelledOf,
+  signs,
+  hasMinus,
+  signedOf,
+  figureOf,
+};
 use digits::Digit;
 
 mod fraction;

@@ -19,7 +19,7 @@ use Rattle.phrases.specs.declared.meaning.Meant.the-variants as M
 use Rattle.phrases.specs.Meanings.{word, meantBy}
 use Rattle.phrases.specs.Phrases.{
   isSilent,
-  loudOf,
+  unsilenced,
   namedOf,
   bodyOf,
   lineText,
@@ -59,7 +59,7 @@ commanded l a b d =
 
 meant-line : (l : List ℕ) (c : Command) → meantBy (bodyOf l) ≡ M.Command c → commandText l ≡ lineText (requestIn l c)
 unfolding commandText
-meant-line l c e = ap (requestText (isSilent l) (namedOf (loudOf l) .ident) l) e
+meant-line l c e = ap (requestText (isSilent l) (namedOf (unsilenced l) .ident) l) e
 
 pub same-line : SameLine
 same-line = record {

@@ -32,8 +32,8 @@ abbrev pub isSilent : List ℕ → Bool
 isSilent l = same (frontOf l 7) (chars "silent ")
 
 -- What stands behind `silent `, or all.
-abbrev pub loudOf : List ℕ → List ℕ
-loudOf l = cond (isSilent l) (drop 7 l) l
+abbrev pub unsilenced : List ℕ → List ℕ
+unsilenced l = cond (isSilent l) (drop 7 l) l
 
 -- The last five characters are ` as ` and one more: the identification.
 abbrev pub hasIdent : List ℕ → Bool
@@ -47,7 +47,7 @@ namedOf l =
 
 -- What is left: the form.
 abbrev pub bodyOf : List ℕ → List ℕ
-bodyOf l = frontOf (loudOf l) (namedOf (loudOf l) .length)
+bodyOf l = frontOf (unsilenced l) (namedOf (unsilenced l) .length)
 
 -- A question mark and the form that is nearest to its first word.
 abbrev pub nearestText : List ℕ → List ℕ
@@ -65,7 +65,7 @@ requestText silent ident l (M.Command c) = lineText (record { silent = silent; c
 requestText silent ident l (M.Refused n) = turnedText n
 
 unfoldable pub commandText : List ℕ → List ℕ
-commandText l = requestText (isSilent l) (namedOf (loudOf l) .ident) l (meantBy (bodyOf l))
+commandText l = requestText (isSilent l) (namedOf (unsilenced l) .ident) l (meantBy (bodyOf l))
 
 -- ---- `opening`: the line that host tools send first (paper 02, 2/14), without 0D
 
@@ -119,14 +119,14 @@ tickText n w =
     (chars "T " ++ (decimalOf n ++ (chars " " ++ sixOf w)))
 
 -- The bench program takes 1 to 1,000,000 ticks (paper 01, "Host end and program").
-abbrev pub ticksBy : List ℕ → ℕ → Spelled → List ℕ
-ticksBy l n S.Not = nearestText l
-ticksBy l n (S.Number w) = cond (isWithin n 1 1000000) (tickText n w) (nearestText l)
+abbrev pub tickLineText : List ℕ → ℕ → Spelled → List ℕ
+tickLineText l n S.Not = nearestText l
+tickLineText l n (S.Number w) = cond (isWithin n 1 1000000) (tickText n w) (nearestText l)
 
 abbrev pub ticksText : List ℕ → List ℕ
 ticksText l =
-    cond (eqb (words l) 2) (ticksBy l (numberAt l 1) (S.Number 0))
-    (cond (eqb (words l) 3) (ticksBy l (numberAt l 1) (spelledOf 16 (word 2 l)))
+    cond (eqb (words l) 2) (tickLineText l (numberAt l 1) (S.Number 0))
+    (cond (eqb (words l) 3) (tickLineText l (numberAt l 1) (spelledOf 16 (word 2 l)))
     (nearestText l))
 
 -- ---- A line of words, by the place of its first
@@ -143,4 +143,4 @@ wordsText l = textAt (placeOf (word 0 l)) l
 
 -- Of a line that is too long the first 100 characters are looked at.
 unfoldable pub overlongText : List ℕ → List ℕ
-overlongText l = questionText (word 0 (loudOf (frontOf l 100)))
+overlongText l = questionText (word 0 (unsilenced (frontOf l 100)))

@@ -18,7 +18,7 @@ use Rattle.phrases.specs.declared.meaning.Meant.the-variants as M
 use Rattle.phrases.specs.Meanings.{word, words, meantBy}
 use Rattle.phrases.specs.Phrases.{
   isSilent,
-  loudOf,
+  unsilenced,
   namedOf,
   bodyOf,
   lineText,
@@ -29,7 +29,7 @@ use Rattle.phrases.specs.Phrases.{
 
 -- The command c as a line of words asks for it: silent or not, with the identification behind ` as ` or none.
 abbrev pub requestIn : List ℕ → Command → Request
-requestIn l c = record { silent = isSilent l; command = c; ident = namedOf (loudOf l) .ident }
+requestIn l c = record { silent = isSilent l; command = c; ident = namedOf (unsilenced l) .ident }
 
 -- What is printed for a command, and 0D behind it, is its line and nothing else. With `LineTrip` of crate host (the
 -- controller's own receiver and byte step read `lineOf r` as that very request) it is read as the same command.

@@ -5,7 +5,7 @@ ghost use mathlib.Core.Path.{_≡_};
 ghost use Rattle.text.specs.Text.{writes};
 ghost use Rattle.phrases.specs.Phrases.{
   isSilent,
-  loudOf,
+  unsilenced,
   namedOf,
   bodyOf,
   nearestText,
@@ -17,17 +17,17 @@ ghost use Rattle.phrases.specs.Phrases.{
 };
 ghost use Rattle.phrases.specs.Promises.{SameLine, TickLine};
 use crate::meaning::Meant;
-use crate::meaning::SPACE;
 use digits::END;
 use digits::Ident;
 use host::Request;
 use host::Written;
 use sentences::places;
+use text::SPACE;
 use text::Text;
 use text::parts;
 
-mod asides;
 mod meaning;
+mod programs;
 mod single;
 
 // The characters of an over-long line that are looked at.
@@ -47,8 +47,8 @@ fn is_silent(line: &[u8]) -> bool
 }
 
 // What stands behind that, or all.
-fn loud(line: &[u8]) -> &[u8]
-    ensures { λ r. ⌜ now r ≡ loudOf (now (line .entry)) ⌝ }
+fn unsilenced(line: &[u8]) -> &[u8]
+    ensures { λ r. ⌜ now r ≡ unsilenced (now (line .entry)) ⌝ }
 {
     if is_silent(line) {
         return parts::rest(line, 7);
@@ -86,7 +86,7 @@ fn ident_in(line: &[u8]) -> Named
 fn body(line: &[u8]) -> &[u8]
     ensures { λ r. ⌜ now r ≡ bodyOf (now (line .entry)) ⌝ }
 {
-    let rest = loud(line);
+    let rest = unsilenced(line);
     let named = ident_in(rest);
     block::front(rest, named.length)
 }
@@ -133,7 +133,7 @@ fn command(text: Text, line: &[u8]) -> Text
     ensures { λ r. ⌜ r ≡ writes text (commandText (now (line .entry))) ⌝ }
 {
     let silent = is_silent(line);
-    let named = ident_in(loud(line));
+    let named = ident_in(unsilenced(line));
     let ident = named.ident;
     let meant = meaning::meaning_of(body(line));
     requested(text, silent, ident, line, meant)
@@ -147,13 +147,13 @@ pub fn words(text: Text, line: &[u8]) -> Text
 {
     let k = sentences::place_of(parts::part(line, SPACE, 0));
     if k == places::OPENING {
-        return asides::opening(text, line);
+        return programs::opening(text, line);
     }
     if k == places::MASTER {
-        return asides::master(text, line);
+        return programs::master(text, line);
     }
     if k == places::TICKS {
-        return asides::ticks(text, line);
+        return programs::ticks(text, line);
     }
     command(text, line)
 }
@@ -162,6 +162,6 @@ pub fn words(text: Text, line: &[u8]) -> Text
 pub fn overlong(text: Text, line: &[u8]) -> Text
     ensures { λ r. ⌜ r ≡ writes text (overlongText (now (line .entry))) ⌝ }
 {
-    let first = loud(block::front(line, LOOKED_AT));
+    let first = unsilenced(block::front(line, LOOKED_AT));
     sentences::question(text, parts::part(first, SPACE, 0))
 }

@@ -1,16 +1,23 @@
 // What words mean as a command (docs/PROTOCOL.md, "From words"). Assumes nothing.
 ghost use mathlib.Core.Path.{_≡_};
-ghost use Rattle.phrases.specs.Meanings.{plainOf, signedDistance, axisDistance, pairOf, waitingStart, waitingOf, meantAt, meantBy};
+ghost use Rattle.phrases.specs.Meanings.{
+  plainOf,
+  signedDistance,
+  axisDistance,
+  pairOf,
+  waitingStart,
+  waitingOf,
+  meantAt,
+  meantBy,
+};
 use crate::single;
 use line::command::Command;
 use line::command::Reading;
 use numerals::Signed;
 use numerals::Spelled;
 use sentences::places;
+use text::SPACE;
 use text::parts;
-
-// A space, which stands between two words.
-pub(crate) const SPACE: u8 = 32;
 
 // What words mean.
 pub enum Meant {

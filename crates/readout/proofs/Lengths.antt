@@ -44,11 +44,11 @@ use Rattle.readout.specs.Readout.{
   inputsText,
   switchText,
   identText,
-  ownerText,
+  originText,
   figureText,
   blockText,
 }
-use Rattle.readout.specs.Promises.{Fits}
+use Rattle.readout.specs.Promises.{ShortAnswers}
 
 -- At most n bytes.
 abbrev Most : ℕ → List ℕ → Type 0
@@ -63,8 +63,8 @@ ident-length : (i : Ident) → length (identText i) ≤ 7
 ident-length Absent = omega arith
 ident-length (Given c) = omega arith
 
-owner-length : (s : ℕ) (i : Ident) → length (ownerText s i) ≤ 18
-owner-length s i = joined-length (switchText s) (identText i) 11 7 (switch-length s) (ident-length i)
+origin-length : (s : ℕ) (i : Ident) → length (originText s i) ≤ 18
+origin-length s i = joined-length (switchText s) (identText i) 11 7 (switch-length s) (ident-length i)
 
 -- ---- what it says
 
@@ -123,7 +123,8 @@ order-length n =
     λ _. by-bool (Most 28) (eqb (code n) 9) _ _ (λ _. omega arith)
     λ _. by-bool (Most 28) (eqb (code n) 10) _ _ (λ _. omega arith)
     λ _. by-bool (Most 28) (eqb (code n) 11) _ _ (λ _. omega arith)
-    λ _. by-bool (Most 28) (eqb (code n) 13) _ _ (λ _. omega arith) (λ _. omega arith)
+    λ _. by-bool (Most 28) (eqb (code n) 13) _ _ (λ _. omega arith)
+    λ _. by-bool (Most 28) (eqb (code n) 14) _ _ (λ _. omega arith) (λ _. omega arith)
 
 echo-length : (n : ℕ) → length (echoText n) ≤ 100
 echo-length n =
@@ -153,8 +154,8 @@ inputs-length w = omega arith
 -- ---- all of it
 
 -- What a block says, and whose it is.
-owned : (l : List ℕ) (n s : ℕ) (i : Ident) → n ≤ 182 → length l ≤ n → length (l ++ ownerText s i) ≤ 200
-owned l n s i h k = omega (arith, h, joined-length l (ownerText s i) n 18 k (owner-length s i))
+owned : (l : List ℕ) (n s : ℕ) (i : Ident) → n ≤ 182 → length l ≤ n → length (l ++ originText s i) ≤ 200
+owned l n s i h k = omega (arith, h, joined-length l (originText s i) n 18 k (origin-length s i))
 
 figure-length : (s : List ℕ) (f : Figures) → Spelt s f → length (figureText f) ≤ 200
 figure-length s (F.refused n) t = omega (arith, turned-length n (omega (arith, t)))
@@ -174,5 +175,5 @@ unfolding blockText
 block-length l =
     figure-length (l ++ (endByte ∷ [])) (readOf (l ++ (endByte ∷ []))) (blocks-read .only (l ++ (endByte ∷ [])))
 
-pub fits : Fits
+pub fits : ShortAnswers
 fits = record { most = block-length }

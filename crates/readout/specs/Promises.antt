@@ -35,5 +35,5 @@ pub record RepliesTold : Type 0 where
   pub blocks : (s : List ℕ) (f : Figures) → Says s f → ToldBy (beforeEnd s) f
 
 -- Whatever the line, its answer as a block has at most 200 bytes.
-pub record Fits : Type 0 where
+pub record ShortAnswers : Type 0 where
   pub most : (l : List ℕ) → length (blockText l) ≤ 200

@@ -84,7 +84,8 @@ orderText n =
     (cond (eqb (code n) 10) (chars "clear")
     (cond (eqb (code n) 11) (chars "reset")
     (cond (eqb (code n) 13) (chars "low " ++ sixOf (five n))
-    (chars "high " ++ sixOf (five n))))))
+    (cond (eqb (code n) 14) (chars "high " ++ sixOf (five n))
+    [])))))
 
 abbrev pub echoText : ℕ → List ℕ
 echoText n = sentenceText 0 ++ (chars ": " ++ orderText n)
@@ -106,19 +107,19 @@ abbrev pub identText : Ident → List ℕ
 identText Absent = []
 identText (Given c) = chars " (as " ++ (c ∷ chars ")")
 
-abbrev pub ownerText : ℕ → Ident → List ℕ
-ownerText s ident = switchText s ++ identText ident
+abbrev pub originText : ℕ → Ident → List ℕ
+originText s ident = switchText s ++ identText ident
 
 -- ---- What the reader says, in words
 
 abbrev pub figureText : Figures → List ℕ
 figureText (F.refused n) = turnedText n
-figureText (F.verdict s n ident) = verdictText n ++ ownerText s ident
-figureText (F.travelled s axis minus travel ident) = travelText axis minus travel ++ ownerText s ident
-figureText (F.status s bits ident) = statusText bits ++ ownerText s ident
-figureText (F.echo s digits ident) = echoText digits ++ ownerText s ident
-figureText (F.placed s axis z ident) = positionText axis z ++ ownerText s ident
-figureText (F.inputs s word ident) = inputsText word ++ ownerText s ident
+figureText (F.verdict s n ident) = verdictText n ++ originText s ident
+figureText (F.travelled s axis minus travel ident) = travelText axis minus travel ++ originText s ident
+figureText (F.status s bits ident) = statusText bits ++ originText s ident
+figureText (F.echo s digits ident) = echoText digits ++ originText s ident
+figureText (F.placed s axis z ident) = positionText axis z ++ originText s ident
+figureText (F.inputs s word ident) = inputsText word ++ originText s ident
 
 -- The line is read with 0D behind it.
 unfoldable pub blockText : List ℕ → List ℕ

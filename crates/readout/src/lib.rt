@@ -8,7 +8,7 @@ ghost use Rattle.digits.specs.Digits.{digitOf, endByte};
 ghost use Rattle.reader.specs.Reader.{figuresOf, readOf};
 ghost use Rattle.text.specs.Text.{writes};
 ghost use Rattle.readout.specs.Readout.{isLetter, isSwitch, isBlock, figureText, blockText};
-ghost use Rattle.readout.specs.Promises.{RepliesTold, Fits};
+ghost use Rattle.readout.specs.Promises.{RepliesTold, ShortAnswers};
 use digits::Digit;
 use digits::END;
 use reader::reading::Reading;
@@ -107,7 +107,7 @@ fn figure(text: Text, reading: Reading) -> Text
             ident,
         } => {
             let said = told::verdict(text, number);
-            told::owner(said, switch, ident)
+            told::origin(said, switch, ident)
         }
         Reading::Travelled {
             switch,
@@ -117,7 +117,7 @@ fn figure(text: Text, reading: Reading) -> Text
             ident,
         } => {
             let said = told::travelled(text, axis, minus, travel);
-            told::owner(said, switch, ident)
+            told::origin(said, switch, ident)
         }
         Reading::Status {
             switch,
@@ -125,7 +125,7 @@ fn figure(text: Text, reading: Reading) -> Text
             ident,
         } => {
             let said = told::status(text, status);
-            told::owner(said, switch, ident)
+            told::origin(said, switch, ident)
         }
         Reading::Echo {
             switch,
@@ -133,7 +133,7 @@ fn figure(text: Text, reading: Reading) -> Text
             ident,
         } => {
             let said = orders::echo(text, digits);
-            told::owner(said, switch, ident)
+            told::origin(said, switch, ident)
         }
         Reading::Placed {
             switch,
@@ -142,7 +142,7 @@ fn figure(text: Text, reading: Reading) -> Text
             ident,
         } => {
             let said = told::placed(text, axis, position);
-            told::owner(said, switch, ident)
+            told::origin(said, switch, ident)
         }
         Reading::Inputs {
             switch,
@@ -150,7 +150,7 @@ fn figure(text: Text, reading: Reading) -> Text
             ident,
         } => {
             let said = told::inputs(text, inputs);
-            told::owner(said, switch, ident)
+            told::origin(said, switch, ident)
         }
     }
 }
@@ -160,7 +160,7 @@ fn figure(text: Text, reading: Reading) -> Text
 pub fn block(text: Text, line: &[u8]) -> Text
     ensures { λ r. ⌜ r ≡ writes text (blockText (now (line .entry))) ⌝ }
     ensures { λ _. ⌜ RepliesTold ⌝ }
-    ensures { λ _. ⌜ Fits ⌝ }
+    ensures { λ _. ⌜ ShortAnswers ⌝ }
 {
     let reading = read(line);
     figure(text, reading)

@@ -40,8 +40,11 @@ fn order(text: Text, n: u32) -> Text
         let low = text.characters(b"low ");
         return low.six(five);
     }
-    let high = text.characters(b"high ");
-    high.six(five)
+    if k == 14 {
+        let high = text.characters(b"high ");
+        return high.six(five);
+    }
+    text
 }
 
 // S of an order.

@@ -17,7 +17,7 @@ ghost use Rattle.readout.specs.Readout.{
   inputsText,
   switchText,
   identText,
-  ownerText,
+  originText,
 };
 use digits::Ident;
 use digits::TOP_BIT;
@@ -157,8 +157,8 @@ fn name(text: Text, ident: Ident) -> Text
 }
 
 // Whose block it is.
-pub(crate) fn owner(text: Text, s: u8, ident: Ident) -> Text
-    ensures { λ r. ⌜ r ≡ writes text (ownerText s ident) ⌝ }
+pub(crate) fn origin(text: Text, s: u8, ident: Ident) -> Text
+    ensures { λ r. ⌜ r ≡ writes text (originText s ident) ⌝ }
 {
     let digit = switch(text, s);
     name(digit, ident)

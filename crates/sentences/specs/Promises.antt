@@ -6,8 +6,30 @@ use mathlib.Core.List.{List, [], _++_}
 use mathlib.Core.Path.{_≡_}
 use Rattle.text.specs.Parts.{part, parts, same}
 use Rattle.machine.specs.Calls.{chars}
-use Rattle.sentences.specs.Places.{start, travel, position, dwell, watch, polarity, low, high, outputs, speed, slope, distance, stop, status, everything, inputs, clear, reset, opening, master, ticks}
-use Rattle.sentences.specs.Sentences.{sentences, states, keywords, forms, shared, closest, placeOf}
+use Rattle.sentences.specs.Places.{
+  start,
+  travel,
+  position,
+  dwell,
+  watch,
+  polarity,
+  low,
+  high,
+  outputs,
+  speed,
+  slope,
+  distance,
+  stop,
+  status,
+  everything,
+  inputs,
+  clear,
+  reset,
+  opening,
+  master,
+  ticks,
+}
+use Rattle.sentences.specs.Sentences.{sentences, states, keywords, forms, wordCount, shared, closest, placeOf}
 
 -- Each word is found at its place.
 pub record Places : Type 0 where
@@ -63,10 +85,11 @@ pub record Tables : Type 0 where
   pub forms-end : part 10 21 forms ≡ allWords 20
 
 -- The place whose form answers a word w: no place has more first letters in common with w, each one before it has
--- fewer, and it has at least one; place 21, of no word, only where no place has any.
+-- fewer, and it has at least one; that of no word only where no place has any.
 pub record Nearest (w : List ℕ) : Type 0 where
-  pub within : closest 21 w ≤ 21
-  pub best : (k : ℕ) → k < 21 → shared k w ≤ shared (closest 21 w) w
-  pub first : closest 21 w < 21 → (k : ℕ) → k < closest 21 w → shared k w < shared (closest 21 w) w
-  pub some : closest 21 w < 21 → 0 < shared (closest 21 w) w
-  pub none : closest 21 w ≡ 21 → (k : ℕ) → k < 21 → shared k w ≡ 0
+  pub within : closest wordCount w ≤ wordCount
+  pub best : (k : ℕ) → k < wordCount → shared k w ≤ shared (closest wordCount w) w
+  pub first : closest wordCount w < wordCount → (k : ℕ) → k < closest wordCount w
+      → shared k w < shared (closest wordCount w) w
+  pub some : closest wordCount w < wordCount → 0 < shared (closest wordCount w) w
+  pub none : closest wordCount w ≡ wordCount → (k : ℕ) → k < wordCount → shared k w ≡ 0

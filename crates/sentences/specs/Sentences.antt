@@ -128,6 +128,10 @@ forms =
     ++ (chars "start, travel, position, dwell, watch, polarity, low, high, outputs, speed, slope, distance, stop, "
     ++ rows ("status, everything, inputs, clear, reset, opening, master, ticks" ∷ []))
 
+-- How many words there are, and so the place of no word.
+abbrev pub wordCount : ℕ
+wordCount = 21
+
 -- How many first letters a word has in common with the one at place k; none with that behind the last.
 abbrev pub shared : ℕ → List ℕ → ℕ
 shared k w = common (part 10 k keywords) w
@@ -136,9 +140,9 @@ shared k w = common (part 10 k keywords) w
 abbrev pub betterOf : List ℕ → ℕ → ℕ → ℕ
 betterOf w j k = cond (ltb (shared j w) (shared k w)) k j
 
--- The best of the first n places; place 21, of no word, where none has a letter in common.
+-- The best of the first n places; that of no word where none has a letter in common.
 unfoldable pub closest : ℕ → List ℕ → ℕ
-closest zero w = 21
+closest zero w = wordCount
 closest (suc n) w = betterOf w (closest n w) n
 
 -- Whether the word at place k is this very one.
@@ -149,14 +153,14 @@ isWord k w = same (part 10 k keywords) w
 abbrev pub orElse : List ℕ → ℕ → ℕ → ℕ
 orElse w found k = cond (isWord k w) k found
 
--- The place of the very word among the first n; 21 where it is none of them.
+-- The place of the very word among the first n; that of no word where it is none of them.
 unfoldable pub placeIn : ℕ → List ℕ → ℕ
-placeIn zero w = 21
+placeIn zero w = wordCount
 placeIn (suc n) w = orElse w (placeIn n w) n
 
 abbrev pub placeOf : List ℕ → ℕ
-placeOf w = placeIn 21 w
+placeOf w = placeIn wordCount w
 
 -- A question mark and the nearest form.
 abbrev pub questionText : List ℕ → List ℕ
-questionText w = chars "? " ++ part 10 (closest 21 w) forms
+questionText w = chars "? " ++ part 10 (closest wordCount w) forms

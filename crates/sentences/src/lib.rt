@@ -8,6 +8,7 @@ ghost use Rattle.sentences.specs.Sentences.{
   turnedText,
   stateText,
   shared,
+  wordCount,
   betterOf,
   closest,
   isWord,
@@ -73,7 +74,7 @@ fn better(w: &[u8], j: usize, k: usize) -> usize
 
 // The best of all places.
 fn closest(w: &[u8]) -> usize
-    ensures { λ r. ⌜ r ≡ closest 21 (now (w .entry)) ⌝ }
+    ensures { λ r. ⌜ r ≡ closest wordCount (now (w .entry)) ⌝ }
 {
     let mut best = NO_WORD;
     let mut k = 0;

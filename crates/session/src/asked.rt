@@ -5,14 +5,13 @@ ghost use lib.ListN.{length};
 ghost use Rattle.digits.specs.Digits.{numberOf};
 ghost use Rattle.session.specs.Asked.{joinOf, countOf, askedBy, askedOf};
 use digits::Number;
+use text::SPACE;
 
-// The letter T, and a space.
+// The letter T.
 pub(crate) const LETTER: u8 = 84;
 
-const SPACE: u8 = 32;
-
 // The most ticks of a line.
-const MOST: u32 = 1000000;
+pub const MOST_TICKS: u32 = 1000000;
 
 // What a line that begins with T asks.
 pub(crate) enum Asked {
@@ -34,7 +33,7 @@ fn join(n: u32, c: u8) -> u32
         return 0;
     }
     let v = n * 10 + (c - 48) as u32;
-    if MOST < v {
+    if MOST_TICKS < v {
         return 0;
     }
     v

@@ -12,6 +12,7 @@ ghost use Rattle.session.specs.Session.{fresh, ended, character, taken, 
 ghost use Rattle.session.specs.Session.{Told, Answers, Running, Runs};
 ghost use Rattle.session.specs.Stretch.{stretch, heldStretch, Silent};
 use crate::asked::LETTER;
+pub use crate::asked::MOST_TICKS;
 use crate::kept::Kept;
 pub use crate::state::Gathered;
 pub use crate::state::Place;

@@ -15,6 +15,9 @@ pub const ROOM: usize = 250;
 // The line feed, which ends a line and a row of a table.
 pub const FEED: u8 = 10;
 
+// A space, which stands between two words.
+pub const SPACE: u8 = 32;
+
 // A text: its bytes, zeros after them, and their count. From 250 bytes on no more are taken.
 pub struct Text {
     pub chars: [u8; ROOM],

@@ -22,7 +22,22 @@ use Rattle.sentences.specs.Places as K
 use Rattle.sentences.specs.Sentences.{placeOf}
 use Rattle.phrases.specs.declared.meaning.Meant.{Meant}
 use Rattle.phrases.specs.declared.meaning.Meant.the-variants as M
-use Rattle.phrases.specs.Meanings.{word, plainOf, withDecimal, withHexadecimal, settingOf, askedMeant, withFigure, singleOf, axisDistance, pairOf, waitingStart, waitingOf, meantAt, meantBy}
+use Rattle.phrases.specs.Meanings.{
+  word,
+  plainOf,
+  withDecimal,
+  withHexadecimal,
+  settingOf,
+  askedMeant,
+  withFigure,
+  singleOf,
+  axisDistance,
+  pairOf,
+  waitingStart,
+  waitingOf,
+  meantAt,
+  meantBy,
+}
 
 -- 21 at most.
 unfoldable pub Small : Meant → Type 0

@@ -24,14 +24,16 @@ use Rattle.block.specs.Block.{blockOf}
 use Rattle.figures.specs.Figures.{Answer, asks}
 use Rattle.figures.proofs.Trip.{speed-trip, slope-trip}
 use Rattle.wording.specs.Wording.{sumsIn, answerText}
-use Rattle.wording.specs.Page.{Commands, Marked, Programs, Replies, Nearest, Page}
+use Rattle.wording.specs.Page.{CommandRows, MarkRows, ProgramRows, ReplyRows, NearestRows, AxisRows, FormRows, Page}
 
 -- What is printed for a figure whose units crate figures has read: what it reads is no matter of computing.
 abbrev asked : String → ℕ → Answer ℕ → List ℕ
 asked l code units = requestText false Absent (chars l) (askedMeant (asks (Set code) units))
 
-commands : Commands
-unfolding masterOf sixOf numberOf before behind marks same common spell decimalOf readOn noughts sentences states keywords forms closest placeIn meantBy commandText wordsText blockText fieldsIn readOf lineOf blockOf sumsIn answerText
+commands : CommandRows
+unfolding masterOf sixOf numberOf before behind marks same common spell decimalOf readOn noughts sentences states
+    keywords forms closest placeIn meantBy commandText wordsText blockText fieldsIn readOf lineOf blockOf sumsIn
+    answerText
 commands = record {
   start = refl;
   waiting-start = refl;
@@ -54,8 +56,10 @@ commands = record {
   reset = refl;
 }
 
-marked : Marked
-unfolding masterOf sixOf numberOf before behind marks same common spell decimalOf readOn noughts sentences states keywords forms closest placeIn meantBy commandText wordsText blockText fieldsIn readOf lineOf blockOf sumsIn answerText
+marked : MarkRows
+unfolding masterOf sixOf numberOf before behind marks same common spell decimalOf readOn noughts sentences states
+    keywords forms closest placeIn meantBy commandText wordsText blockText fieldsIn readOf lineOf blockOf sumsIn
+    answerText
 marked = record {
   silent = refl;
   identification = refl;
@@ -63,8 +67,10 @@ marked = record {
   not-exact = refl;
 }
 
-programs : Programs
-unfolding masterOf sixOf numberOf before behind marks same common spell decimalOf readOn noughts sentences states keywords forms closest placeIn meantBy commandText wordsText blockText fieldsIn readOf lineOf blockOf sumsIn answerText
+programs : ProgramRows
+unfolding masterOf sixOf numberOf before behind marks same common spell decimalOf readOn noughts sentences states
+    keywords forms closest placeIn meantBy commandText wordsText blockText fieldsIn readOf lineOf blockOf sumsIn
+    answerText
 programs = record {
   opening = refl;
   master = refl;
@@ -72,8 +78,10 @@ programs = record {
   ticks-with-word = refl;
 }
 
-replies : Replies
-unfolding masterOf sixOf numberOf before behind marks same common spell decimalOf readOn noughts sentences states keywords forms closest placeIn meantBy commandText wordsText blockText fieldsIn readOf lineOf blockOf sumsIn answerText
+replies : ReplyRows
+unfolding masterOf sixOf numberOf before behind marks same common spell decimalOf readOn noughts sentences states
+    keywords forms closest placeIn meantBy commandText wordsText blockText fieldsIn readOf lineOf blockOf sumsIn
+    answerText
 replies = record {
   accepted = refl;
   turned-away = refl;
@@ -102,8 +110,10 @@ replies = record {
   sums = refl;
 }
 
-nearest : Nearest
-unfolding masterOf sixOf numberOf before behind marks same common spell decimalOf readOn noughts sentences states keywords forms closest placeIn meantBy commandText wordsText blockText fieldsIn readOf lineOf blockOf sumsIn answerText
+nearest : NearestRows
+unfolding masterOf sixOf numberOf before behind marks same common spell decimalOf readOn noughts sentences states
+    keywords forms closest placeIn meantBy commandText wordsText blockText fieldsIn readOf lineOf blockOf sumsIn
+    answerText
 nearest = record {
   capital = refl;
   letters = refl;
@@ -111,5 +121,51 @@ nearest = record {
   first = refl;
 }
 
+axes : AxisRows
+unfolding masterOf sixOf numberOf before behind marks same common spell decimalOf readOn noughts sentences states
+    keywords forms closest placeIn meantBy commandText wordsText blockText fieldsIn readOf lineOf blockOf sumsIn
+    answerText
+axes = record {
+  distance-4 = refl;
+  travel-3 = refl;
+  position-4 = refl;
+  start-3 = refl;
+  start-4 = refl;
+}
+
+forms-are : FormRows
+unfolding before behind forms
+forms-are = record {
+  start = refl;
+  travel = refl;
+  position = refl;
+  dwell = refl;
+  watch = refl;
+  polarity = refl;
+  low = refl;
+  high = refl;
+  outputs = refl;
+  speed = refl;
+  slope = refl;
+  distance = refl;
+  stop = refl;
+  status = refl;
+  everything = refl;
+  inputs = refl;
+  clear = refl;
+  reset = refl;
+  opening = refl;
+  master = refl;
+  ticks = refl;
+}
+
 pub page : Page
-page = record { commands = commands; marked = marked; programs = programs; replies = replies; nearest = nearest }
+page = record {
+  commands = commands;
+  marked = marked;
+  programs = programs;
+  replies = replies;
+  nearest = nearest;
+  axes = axes;
+  forms-are = forms-are;
+}

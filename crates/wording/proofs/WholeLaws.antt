@@ -17,7 +17,7 @@ use Rattle.readout.proofs.Lengths.{fits}
 use Rattle.wording.specs.declared.Desk.{Desk}
 use Rattle.wording.specs.declared.Taken.{Taken}
 use Rattle.wording.specs.Wording.{areSums, answerText, answerOf, deskOf, takenBy, takenOf, finishedBy, finishedOf}
-use Rattle.wording.specs.Promises.{Whole, bytesOf, prints, answers, Answers}
+use Rattle.wording.specs.Promises.{Whole, bytesOf, prints, answers, AnswersInOrder}
 use Rattle.wording.proofs.WordingLaws.{
   held-line,
   overlong-is,
@@ -78,5 +78,5 @@ prints-are (b ∷ bs) l =
     when true p q = λ i. written (answerOf l) (whole l) i ++ p i
     when false p q = λ i. written [] (omega arith) i ++ q i
 
-pub answers-are : Answers
+pub answers-are : AnswersInOrder
 answers-are bs = prints-are bs []

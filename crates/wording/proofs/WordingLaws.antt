@@ -16,7 +16,7 @@ use Rattle.text.specs.declared.Text.{Text}
 use Rattle.text.proofs.TextLaws.{push-holding}
 use Rattle.sentences.specs.Sentences.{questionText}
 use Rattle.phrases.specs.Meanings.{word}
-use Rattle.phrases.specs.Phrases.{loudOf, overlongText, wordsText}
+use Rattle.phrases.specs.Phrases.{unsilenced, overlongText, wordsText}
 use Rattle.readout.specs.Readout.{isBlock, blockText}
 use Rattle.machine.specs.Calls.{chars}
 use Rattle.wording.specs.declared.Desk.{Desk}
@@ -71,7 +71,7 @@ long-alike : (k l : List ℕ) → 100 ≤ length k → 100 ≤ length l → take
 unfolding answerText overlongText
 long-alike k l h j e =
     rw (le-leb 100 (length k) h, le-leb 100 (length l) j)
-    (ap (λ (x : List ℕ). questionText (word 0 (loudOf x))) e)
+    (ap (λ (x : List ℕ). questionText (word 0 (unsilenced x))) e)
 
 pub first-decide : (l : List ℕ) → answerText (take 250 l) ≡ answerText l
 first-decide l =

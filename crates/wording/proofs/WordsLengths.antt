@@ -31,7 +31,26 @@ use Rattle.sentences.proofs.Lengths.{turned-length, question-length}
 use Rattle.phrases.specs.declared.meaning.Meant.{Meant}
 use Rattle.phrases.specs.declared.meaning.Meant.the-variants as M
 use Rattle.phrases.specs.Meanings.{word, words, meantBy}
-use Rattle.phrases.specs.Phrases.{isSilent, loudOf, namedOf, bodyOf, lineText, requestText, commandText, nearestText, openingText, numberAt, areDistances, distancesOf, masterText, tickText, ticksBy, ticksText, wordsText, overlongText}
+use Rattle.phrases.specs.Phrases.{
+  isSilent,
+  unsilenced,
+  namedOf,
+  bodyOf,
+  lineText,
+  requestText,
+  commandText,
+  nearestText,
+  openingText,
+  numberAt,
+  areDistances,
+  distancesOf,
+  masterText,
+  tickText,
+  tickLineText,
+  ticksText,
+  wordsText,
+  overlongText,
+}
 use Rattle.phrases.proofs.PhraseLaws.{line-most}
 use Rattle.wording.proofs.MeantLengths.{Small, small-meant}
 
@@ -74,7 +93,7 @@ request-most silent ident l (M.Refused n) h = turned-most n h
 
 command-most : (l : List ℕ) → Short (commandText l)
 unfolding commandText
-command-most l = request-most (isSilent l) (namedOf (loudOf l) .ident) l (meantBy (bodyOf l)) (small-meant (bodyOf l))
+command-most l = request-most (isSilent l) (namedOf (unsilenced l) .ident) l (meantBy (bodyOf l)) (small-meant (bodyOf l))
 
 opening-most : (l : List ℕ) → Short (openingText l)
 opening-most l =
@@ -101,7 +120,7 @@ tick-most n w h =
     either-short (ltb 16777215 w) (turnedText 3) (chars "T " ++ (d ++ r)) (turned-most 3 (omega arith))
     (short (chars "T " ++ (d ++ r)) (omega (arith, length-append d r)))
 
-ticks-by-most : (l : List ℕ) (n : ℕ) (s : Spelled) → Short (ticksBy l n s)
+ticks-by-most : (l : List ℕ) (n : ℕ) (s : Spelled) → Short (tickLineText l n s)
 ticks-by-most l n S.Not = nearest-most l
 ticks-by-most l n (S.Number w) =
     by-bool Short (isWithin n 1 1000000) (tickText n w) (nearestText l)
@@ -132,4 +151,4 @@ words-most l = most (wordsText l) (words-short l)
 
 pub overlong-most : (l : List ℕ) → length (overlongText l) ≤ 170
 unfolding overlongText
-overlong-most l = question-length (word 0 (loudOf (frontOf l 100)))
+overlong-most l = question-length (word 0 (unsilenced (frontOf l 100)))

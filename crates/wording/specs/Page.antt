@@ -1,11 +1,15 @@
--- The examples of docs/PROTOCOL.md, "From words", row by row: what the desk answers to each line, computed. They tie the
--- words to the codes and letters of paper 01 whatever the tables of the code and of these specs have in common.
+-- The examples of docs/PROTOCOL.md, "From words": what the desk answers to each line, computed; but for the row of all
+-- words, which `Tables` of crate sentences has. They tie the words to the codes and letters of paper 01, whatever the
+-- tables of the code and of these specs have in common.
 use mathlib.Core.Path.{_≡_}
 use Rattle.machine.specs.Calls.{chars}
+use Rattle.text.specs.Parts.{part}
+use Rattle.sentences.specs.Places as K
+use Rattle.sentences.specs.Sentences.{forms}
 use Rattle.wording.specs.Wording.{answerText}
 
 -- Each command in words, and the line that is printed.
-pub record Commands : Type 0 where
+pub record CommandRows : Type 0 where
   pub start : answerText (chars "start 0") ≡ chars "Q0800000"
   pub waiting-start : answerText (chars "start 0 after dwell") ≡ chars "Q0880000"
   pub travel : answerText (chars "travel 2") ≡ chars "Q0200000"
@@ -27,21 +31,21 @@ pub record Commands : Type 0 where
   pub reset : answerText (chars "reset") ≡ chars "Q0B00000"
 
 -- `silent`, an identification, and the two numbers of a command.
-pub record Marked : Type 0 where
+pub record MarkRows : Type 0 where
   pub silent : answerText (chars "silent stop") ≡ chars "Q4900000"
   pub identification : answerText (chars "stop as A") ≡ chars "Q0900000A"
   pub no-line : answerText (chars "dwell 16384") ≡ chars "turned away by 19: no line has this value"
   pub not-exact : answerText (chars "speed 0.3") ≡ chars "turned away by 21: a figure is not exact or out of range"
 
 -- What is no command.
-pub record Programs : Type 0 where
+pub record ProgramRows : Type 0 where
   pub opening : answerText (chars "opening") ≡ chars "P0B0"
   pub master : answerText (chars "master 5 2 3 0 0") ≡ chars "master 0"
   pub ticks : answerText (chars "ticks 1000") ≡ chars "T 1000 000000"
   pub ticks-with-word : answerText (chars "ticks 1000 000010") ≡ chars "T 1000 000010"
 
 -- Each kind of reply, and what it is in words.
-pub record Replies : Type 0 where
+pub record ReplyRows : Type 0 where
   pub accepted : answerText (chars "U0000000") ≡ chars "accepted"
   pub turned-away : answerText (chars "U000000E") ≡ chars "turned away by 14: an axis is longer than the master"
   pub minus-travel : answerText (chars "S0281388") ≡ chars "travel 2 minus 5000"
@@ -70,16 +74,49 @@ pub record Replies : Type 0 where
   pub sums : answerText (chars "1 -1 0 0 0") ≡ chars "pulses 1 -1 0 0 0"
 
 -- What has no form.
-pub record Nearest : Type 0 where
+pub record NearestRows : Type 0 where
   pub capital : answerText (chars "Speed 5") ≡ chars "? speed 2500.25"
   pub letters : answerText (chars "strt 0") ≡ chars "? start 0, start 0 after dwell"
   pub silent : answerText (chars "silent ticks 5") ≡ chars "? ticks 1000, ticks 1000 000010"
   pub first : answerText (chars "help") ≡ chars "? high 01000"
 
--- All of them.
+-- The higher axes, which the page has not.
+pub record AxisRows : Type 0 where
+  pub distance-4 : answerText (chars "distance 4 1") ≡ chars "P0400001"
+  pub travel-3 : answerText (chars "travel 3") ≡ chars "Q0300000"
+  pub position-4 : answerText (chars "position 4") ≡ chars "q0400000"
+  pub start-3 : answerText (chars "start 3") ≡ chars "Q0830000"
+  pub start-4 : answerText (chars "start 4 after dwell") ≡ chars "Q08C0000"
+
+-- The form that stands behind a question mark for each word: those of the rows above, so that each is right.
+pub record FormRows : Type 0 where
+  pub start : part 10 K.start forms ≡ chars "start 0, start 0 after dwell"
+  pub travel : part 10 K.travel forms ≡ chars "travel 2"
+  pub position : part 10 K.position forms ≡ chars "position 1"
+  pub dwell : part 10 K.dwell forms ≡ chars "dwell 20"
+  pub watch : part 10 K.watch forms ≡ chars "watch 3"
+  pub polarity : part 10 K.polarity forms ≡ chars "polarity 003"
+  pub low : part 10 K.low forms ≡ chars "low 00010"
+  pub high : part 10 K.high forms ≡ chars "high 01000"
+  pub outputs : part 10 K.outputs forms ≡ chars "outputs ABCDEF"
+  pub speed : part 10 K.speed forms ≡ chars "speed 2500.25"
+  pub slope : part 10 K.slope forms ≡ chars "slope 1250"
+  pub distance : part 10 K.distance forms ≡ chars "distance 2 -5000"
+  pub stop : part 10 K.stop forms ≡ chars "stop"
+  pub status : part 10 K.status forms ≡ chars "status"
+  pub everything : part 10 K.everything forms ≡ chars "everything"
+  pub inputs : part 10 K.inputs forms ≡ chars "inputs"
+  pub clear : part 10 K.clear forms ≡ chars "clear"
+  pub reset : part 10 K.reset forms ≡ chars "reset"
+  pub opening : part 10 K.opening forms ≡ chars "opening"
+  pub master : part 10 K.master forms ≡ chars "master 5 2 3 0 0"
+  pub ticks : part 10 K.ticks forms ≡ chars "ticks 1000, ticks 1000 000010"
+
 pub record Page : Type 0 where
-  pub commands : Commands
-  pub marked : Marked
-  pub programs : Programs
-  pub replies : Replies
-  pub nearest : Nearest
+  pub commands : CommandRows
+  pub marked : MarkRows
+  pub programs : ProgramRows
+  pub replies : ReplyRows
+  pub nearest : NearestRows
+  pub axes : AxisRows
+  pub forms-are : FormRows

@@ -1,18 +1,53 @@
 -- What the desk promises of every line and of every input.
-use Prim.Native.Nat.{ℕ, _≤_}
-use mathlib.Core.Bool.{cond}
+use Prim.Native.Nat.{ℕ, _≤_, _<_}
+use mathlib.Core.Bool.{true, false, cond}
 use mathlib.Core.List.{List, [], _∷_, _++_}
 use mathlib.Core.Path.{_≡_}
 use lib.Dec.{eqb}
 use lib.ListN.{length}
+use Rattle.digits.specs.Digits.{endByte}
+use Rattle.digits.specs.declared.Number.the-variants.{Value}
 use Rattle.block.specs.Block.{frontOf}
+use Rattle.line.specs.declared.command.Command.{Command}
+use Rattle.receiver.specs.Receiver.{beforeEnd}
+use Rattle.host.specs.Writer.{hasLine, lineOf}
+use Rattle.reader.specs.Reader.{Figures}
+use Rattle.reader.specs.Blocks.{Says}
+use Rattle.session.specs.Asked.{ticksBy, askedOf}
+use Rattle.numerals.specs.Numerals.{spelledOf}
+use Rattle.numerals.specs.declared.Spelled.the-variants.{Number}
+use Rattle.sentences.specs.Places as K
+use Rattle.sentences.specs.Sentences.{placeOf}
+use Rattle.phrases.specs.declared.meaning.Meant.the-variants as M
+use Rattle.phrases.specs.Meanings.{word, words, meantBy}
+use Rattle.phrases.specs.Phrases.{bodyOf, numberAt}
+use Rattle.phrases.specs.Promises.{requestIn}
+use Rattle.readout.specs.Readout.{isBlock, figureText}
 use Rattle.text.specs.declared.Text.{Text}
 use Rattle.wording.specs.declared.Desk.{Desk}
-use Rattle.wording.specs.Wording.{answerOf, deskOf, takenOf, finishedOf}
+use Rattle.wording.specs.Wording.{areSums, answerText, answerOf, deskOf, takenOf, finishedOf}
 
 -- No answer is cut: a text has room for 250 bytes, and each answer fits with its line feed.
 abbrev pub Whole : Type 0
 Whole = (l : List ℕ) → length (answerOf l) ≤ 250
+
+-- ---- What a whole line is answered with
+
+-- A line that is neither over-long, nor a block, nor five sums.
+abbrev pub Wordy : List ℕ → Type 0
+Wordy l = (length l < 100) × (isBlock l ≡ false) × (areSums l ≡ false)
+
+pub record Told : Type 0 where
+  -- a reply block s that says f, its line feed in the place of 0D, is told by f
+  pub reply : (s : List ℕ) (f : Figures) → Says s f → answerText (beforeEnd s) ≡ figureText f
+  -- words that mean a command are answered with the command's very line
+  pub command : (l : List ℕ) (c : Command) → Wordy l → meantBy (bodyOf l) ≡ M.Command c
+      → hasLine (requestIn l c) ≡ true → (placeOf (word 0 l) ≡ K.opening → ⊥) → (placeOf (word 0 l) ≡ K.master → ⊥)
+      → (placeOf (word 0 l) ≡ K.ticks → ⊥) → answerText l ++ (endByte ∷ []) ≡ lineOf (requestIn l c)
+  -- words that ask for ticks are answered with what the bench program reads as these
+  pub ticks : (l : List ℕ) (w : ℕ) → Wordy l → placeOf (word 0 l) ≡ K.ticks → words l ≡ 3
+      → 1 ≤ numberAt l 1 → numberAt l 1 ≤ 1000000 → spelledOf 16 (word 2 l) ≡ Number w → w < 16777216
+      → askedOf (answerText l) ≡ ticksBy (numberAt l 1) (Value w false)
 
 -- ---- A whole input
 
@@ -32,5 +67,5 @@ answers l [] = cond (eqb (length l) 0) [] (answerOf l)
 answers l (b ∷ bs) = cond (eqb b 10) (answerOf l ++ answers [] bs) (answers (l ++ (b ∷ [])) bs)
 
 -- A desk prints the answer to each line, whole and in order, and nothing else.
-abbrev pub Answers : Type 0
-Answers = (bs : List ℕ) → prints (deskOf []) bs ≡ answers [] bs
+abbrev pub AnswersInOrder : Type 0
+AnswersInOrder = (bs : List ℕ) → prints (deskOf []) bs ≡ answers [] bs

@@ -5,7 +5,7 @@ ghost use mathlib.Core.List.{[]};
 ghost use mathlib.Core.Path.{_≡_};
 ghost use Rattle.text.specs.Text.{holding, writes};
 ghost use Rattle.wording.specs.Page.{Page};
-ghost use Rattle.wording.specs.Promises.{Whole, Answers};
+ghost use Rattle.wording.specs.Promises.{Whole, Told, AnswersInOrder};
 ghost use Rattle.wording.specs.Wording.{
   isSigned,
   isSumAt,
@@ -24,11 +24,9 @@ ghost use Rattle.wording.specs.Wording.{
 };
 use numerals::Signed;
 use text::FEED;
+use text::SPACE;
 use text::Text;
 use text::parts;
-
-// A space, which stands between two sums.
-const SPACE: u8 = 32;
 
 // A line of so many characters is over-long.
 const OVERLONG: usize = 100;
@@ -113,11 +111,12 @@ fn answer_text(text: Text, line: &[u8]) -> Text
     phrases::words(text, line)
 }
 
-// The answer to a line, with its line feed. That no answer is cut, and the examples of docs/PROTOCOL.md, stand here as
-// promises.
+// The answer to a line, with its line feed. That no answer is cut, that replies are told by their figures and commands
+// by their lines, and the examples of docs/PROTOCOL.md, stand here as promises.
 pub fn answer(line: &[u8]) -> Text
     ensures { λ r. ⌜ r ≡ holding (answerOf (now (line .entry))) ⌝ }
     ensures { λ _. ⌜ Whole ⌝ }
+    ensures { λ _. ⌜ Told ⌝ }
     ensures { λ _. ⌜ Page ⌝ }
 {
     let text = answer_text(Text::new(), line);
@@ -128,7 +127,7 @@ impl Desk {
     // No character. What a desk prints to a whole input stands here as a promise.
     pub fn new() -> Desk
         ensures { λ r. ⌜ r ≡ deskOf [] ⌝ }
-        ensures { λ _. ⌜ Answers ⌝ }
+        ensures { λ _. ⌜ AnswersInOrder ⌝ }
     {
         let line = Text::new();
         Desk { line }

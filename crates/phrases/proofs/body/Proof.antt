@@ -9,8 +9,8 @@ use borrow.Author.Needs.{needs}
 use Rattle.phrases.proofs.body.Statement.{statement}
 use Rattle.phrases.proofs.body.Tie as tie
 
-loud-requires : tie.Need-loud-requires
-loud-requires c κs = search needs
+unsilenced-requires : tie.Need-unsilenced-requires
+unsilenced-requires c κs = search needs
 
 ident-in-requires : tie.Need-ident-in-requires
 ident-in-requires c κs = search needs
@@ -20,10 +20,10 @@ front-requires c κs = search needs
 
 returns : tie.Need-returns
 returns c =
-    let o = c .before .before .loud in
+    let o = c .before .before .unsilenced in
     c .front .ensures
     ∙ (ap (λ (n : Named). frontOf (o .result .now) (n .length)) (c .before .ident-in .ensures)
     ∙ ap (λ (x : List ℕ). frontOf x (namedOf x .length)) (o .ensures))
 
 pub body-spec : {M : Type 1} → statement M
-body-spec = tie.close (tie.spec loud-requires ident-in-requires front-requires returns)
+body-spec = tie.close (tie.spec unsilenced-requires ident-in-requires front-requires returns)

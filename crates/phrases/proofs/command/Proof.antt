@@ -2,7 +2,7 @@
 use mathlib.Core.Path.{_≡_, ap, _∙_}
 use Rattle.text.specs.Text.{writes}
 use Rattle.phrases.specs.Meanings.{meantBy}
-use Rattle.phrases.specs.Phrases.{loudOf, namedOf, bodyOf, requestText, commandText}
+use Rattle.phrases.specs.Phrases.{unsilenced, namedOf, bodyOf, requestText, commandText}
 use borrow.Author.Needs.{needs}
 use Rattle.phrases.proofs.command.Statement.{statement}
 use Rattle.phrases.proofs.command.Tie as tie
@@ -10,8 +10,8 @@ use Rattle.phrases.proofs.command.Tie as tie
 is-silent-requires : tie.Need-is-silent-requires
 is-silent-requires c κs = search needs
 
-loud-requires : tie.Need-loud-requires
-loud-requires c κs = search needs
+unsilenced-requires : tie.Need-unsilenced-requires
+unsilenced-requires c κs = search needs
 
 ident-in-requires : tie.Need-ident-in-requires
 ident-in-requires c κs = search needs
@@ -31,8 +31,8 @@ returns c =
     let b = c .before .before in
     let o = b .before .before in
     let s = o .before .before .before .args in
-    let named : b .before .ident-in .result ≡ namedOf (loudOf (s .line .now)) =
-    b .before .ident-in .ensures ∙ ap namedOf (o .loud .ensures) in
+    let named : b .before .ident-in .result ≡ namedOf (unsilenced (s .line .now)) =
+    b .before .ident-in .ensures ∙ ap namedOf (o .unsilenced .ensures) in
     let meant : c .before .meaning-of .result ≡ meantBy (bodyOf (s .line .now)) =
     c .before .meaning-of .ensures ∙ ap meantBy (b .body .ensures) in
     let by : c .requested .result ≡ writes (s .text)
@@ -47,7 +47,7 @@ command-spec =
     tie.close
     (tie.spec
     is-silent-requires
-    loud-requires
+    unsilenced-requires
     ident-in-requires
     body-requires
     meaning-of-requires

@@ -3,7 +3,7 @@ use mathlib.Core.Path.{ap, _∙_}
 use borrow.Author.Needs.{needs}
 use Rattle.laws.proofs.Pick.{picks}
 use Rattle.text.specs.Text.{writes}
-use Rattle.text.proofs.TextLaws.{joined}
+use Rattle.text.proofs.TextLaws.{joined, writes-none}
 use Rattle.machine.specs.Calls.{chars}
 use Rattle.digits.specs.Digits.{sixOf}
 use Rattle.line.specs.Codes.{five}
@@ -77,9 +77,14 @@ six-requires-2 c κs = search needs
 
 returns-6 : tie.Need-returns-6
 returns-6 c =
-    let s = c .before .before .before .before .before .before .before .before .args in
+    let s = c .before .before .before .before .before .before .before .before .before .args in
     joined (s .text) (chars "high ") (sixOf (five (s .n))) (c .before .characters5 .ensures) (c .six2 .ensures)
-    ∙ ap (writes (s .text)) (search picks)
+    ∙ ap (writes (s .text)) (search picks depth 12)
+
+returns-7 : tie.Need-returns-7
+returns-7 c =
+    let s = c .before .before .before .before .before .before .args in
+    writes-none (s .text) ∙ ap (writes (s .text)) (search picks depth 12)
 
 pub order-spec : {M : Type 1} → statement M
 order-spec =
@@ -103,4 +108,5 @@ order-spec =
     slice-aggregate-characters-5
     characters-requires-5
     six-requires-2
-    returns-6)
+    returns-6
+    returns-7)

@@ -22,7 +22,8 @@ answered-requires c κs = search needs
 returns-2 : tie.Need-returns-2
 returns-2 c =
     let s = c .before .before .before .before .args in
-    let e : _ ≡ finishedOf (s .self) = on-ne (s .self .line .count) 0 _ _ _ (c .before .if1 .left) (c .answered .ensures) in
+    let e : _ ≡ finishedOf (s .self) =
+    on-ne (s .self .line .count) 0 _ _ _ (c .before .if1 .left) (c .answered .ensures) in
     (e, finished-desk (s .self) _ e)
 
 pub finish-spec : {M : Type 1} → statement M

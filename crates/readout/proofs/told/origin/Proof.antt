@@ -2,8 +2,8 @@
 use borrow.Author.Needs.{needs}
 use Rattle.text.proofs.TextLaws.{joined}
 use Rattle.readout.specs.Readout.{switchText, identText}
-use Rattle.readout.proofs.told.owner.Statement.{statement}
-use Rattle.readout.proofs.told.owner.Tie as tie
+use Rattle.readout.proofs.told.origin.Statement.{statement}
+use Rattle.readout.proofs.told.origin.Tie as tie
 
 switch-requires : tie.Need-switch-requires
 switch-requires c κs = search needs
@@ -16,5 +16,5 @@ returns c =
     let s = c .before .before .args in
     joined (s .text) (switchText (s .s)) (identText (s .ident)) (c .before .switch .ensures) (c .name .ensures)
 
-pub owner-spec : {M : Type 1} → statement M
-owner-spec = tie.close (tie.spec switch-requires name-requires returns)
+pub origin-spec : {M : Type 1} → statement M
+origin-spec = tie.close (tie.spec switch-requires name-requires returns)

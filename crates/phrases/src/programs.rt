@@ -12,22 +12,20 @@ ghost use Rattle.phrases.specs.Phrases.{
   distancesOf,
   masterText,
   tickText,
-  ticksBy,
+  tickLineText,
   ticksText,
 };
-use crate::meaning::SPACE;
 use crate::nearest;
 use digits::END;
 use line::command;
 use numerals::Spelled;
+use session::MOST_TICKS;
+use text::SPACE;
 use text::Text;
 use text::parts;
 
-// The most ticks of a T line (paper 01, "Host end and program").
-const MOST_TICKS: u32 = 1000000;
-
 // The largest input word.
-const TOP_WORD: u32 = 16777215;
+const TOP_WORD: u32 = digits::SIX_DIGITS - 1;
 
 // The host's first line.
 pub(crate) fn opening(text: Text, line: &[u8]) -> Text
@@ -138,7 +136,7 @@ fn tick_line(text: Text, n: u32, word: u32) -> Text
 
 // So many ticks with a word.
 fn ticks_by(text: Text, line: &[u8], n: u32, word: Spelled) -> Text
-    ensures { λ r. ⌜ r ≡ writes text (ticksBy (now (line .entry)) n word) ⌝ }
+    ensures { λ r. ⌜ r ≡ writes text (tickLineText (now (line .entry)) n word) ⌝ }
 {
     match word {
         Spelled::Not => nearest(text, line),

@@ -9,8 +9,8 @@ use Rattle.text.specs.Decimal.{decimalOf}
 use Rattle.text.proofs.TextLaws.{joined}
 use Rattle.phrases.specs.Phrases.{areDistances}
 use borrow.Author.Needs.{needs}
-use Rattle.phrases.proofs.asides.master.Statement.{statement}
-use Rattle.phrases.proofs.asides.master.Tie as tie
+use Rattle.phrases.proofs.programs.master.Statement.{statement}
+use Rattle.phrases.proofs.programs.master.Tie as tie
 
 are-distances-requires : tie.Need-are-distances-requires
 are-distances-requires c κs = search needs

@@ -4,10 +4,10 @@ use Rattle.laws.proofs.Pick.{on-true, on-false}
 use Rattle.line.specs.Ranges.{isWithin}
 use Rattle.text.specs.Text.{writes}
 use Rattle.numerals.specs.declared.Spelled.{Spelled}
-use Rattle.phrases.specs.Phrases.{nearestText, tickText, ticksBy}
+use Rattle.phrases.specs.Phrases.{nearestText, tickText, tickLineText}
 use borrow.Author.Needs.{needs}
-use Rattle.phrases.proofs.asides.ticks_by.Statement.{statement}
-use Rattle.phrases.proofs.asides.ticks_by.Tie as tie
+use Rattle.phrases.proofs.programs.ticks_by.Statement.{statement}
+use Rattle.phrases.proofs.programs.ticks_by.Tie as tie
 
 enum-told : tie.Need-enum-told
 enum-told c = search needs
@@ -33,7 +33,7 @@ returns c =
     ∙ (ap (writes (s .text))
     (on-true (isWithin (s .n) 1 1000000) _ (tickText (s .n) (w .0 .0)) (nearestText (s .line .now))
     (sym (b .within .ensures) ∙ c .before .if1 .taken) refl)
-    ∙ sym (ap (λ (x : Spelled). writes (s .text) (ticksBy (s .line .now) (s .n) x)) (w .1)))
+    ∙ sym (ap (λ (x : Spelled). writes (s .text) (tickLineText (s .line .now) (s .n) x)) (w .1)))
 
 nearest-requires-2 : tie.Need-nearest-requires-2
 nearest-requires-2 c κs = search needs
@@ -42,7 +42,8 @@ returns-2 : tie.Need-returns-2
 returns-2 c =
     let s = c .before .before .before .before .args in
     c .nearest .ensures
-    ∙ sym (ap (λ (x : Spelled). writes (s .text) (ticksBy (s .line .now) (s .n) x)) (c .before .enum-told .given .1))
+    ∙ sym (ap (λ (x : Spelled). writes (s .text) (tickLineText (s .line .now) (s .n) x))
+    (c .before .enum-told .given .1))
 
 returns-3 : tie.Need-returns-3
 returns-3 c =
@@ -53,7 +54,7 @@ returns-3 c =
     ∙ (ap (writes (s .text))
     (on-false (isWithin (s .n) 1 1000000) _ (tickText (s .n) (w .0 .0)) (nearestText (s .line .now))
     (sym (b .within .ensures) ∙ c .before .if1 .left) refl)
-    ∙ sym (ap (λ (x : Spelled). writes (s .text) (ticksBy (s .line .now) (s .n) x)) (w .1)))
+    ∙ sym (ap (λ (x : Spelled). writes (s .text) (tickLineText (s .line .now) (s .n) x)) (w .1)))
 
 pub ticks-by-spec : {M : Type 1} → statement M
 ticks-by-spec =

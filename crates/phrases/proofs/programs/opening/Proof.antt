@@ -5,8 +5,8 @@ use Rattle.text.specs.Text.{writes}
 use Rattle.text.specs.Parts.{part}
 use Rattle.phrases.specs.Meanings.{words}
 use borrow.Author.Needs.{needs}
-use Rattle.phrases.proofs.asides.opening.Statement.{statement}
-use Rattle.phrases.proofs.asides.opening.Tie as tie
+use Rattle.phrases.proofs.programs.opening.Statement.{statement}
+use Rattle.phrases.proofs.programs.opening.Tie as tie
 
 parts-requires : tie.Need-parts-requires
 parts-requires c κs = search needs

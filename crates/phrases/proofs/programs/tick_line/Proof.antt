@@ -8,8 +8,8 @@ use Rattle.text.proofs.TextLaws.{joined}
 use Rattle.machine.specs.Calls.{chars}
 use Rattle.sentences.specs.Sentences.{turnedText}
 use borrow.Author.Needs.{needs}
-use Rattle.phrases.proofs.asides.tick_line.Statement.{statement}
-use Rattle.phrases.proofs.asides.tick_line.Tie as tie
+use Rattle.phrases.proofs.programs.tick_line.Statement.{statement}
+use Rattle.phrases.proofs.programs.tick_line.Tie as tie
 
 turned-away-requires : tie.Need-turned-away-requires
 turned-away-requires c κs = search needs

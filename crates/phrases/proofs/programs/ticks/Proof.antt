@@ -6,10 +6,10 @@ use Rattle.text.specs.Text.{writes}
 use Rattle.numerals.specs.declared.Spelled.the-variants.{Number}
 use Rattle.numerals.specs.Numerals.{spelledOf}
 use Rattle.phrases.specs.Meanings.{words}
-use Rattle.phrases.specs.Phrases.{ticksBy}
+use Rattle.phrases.specs.Phrases.{tickLineText}
 use borrow.Author.Needs.{needs}
-use Rattle.phrases.proofs.asides.ticks.Statement.{statement}
-use Rattle.phrases.proofs.asides.ticks.Tie as tie
+use Rattle.phrases.proofs.programs.ticks.Statement.{statement}
+use Rattle.phrases.proofs.programs.ticks.Tie as tie
 
 parts-requires : tie.Need-parts-requires
 parts-requires c κs = search needs
@@ -24,11 +24,9 @@ returns : tie.Need-returns
 returns c =
     let w = c .before .before in
     let s = w .before .before .before .args in
-    let by : c .ticks-by .result ≡ writes (s .text) (ticksBy (s .line .now) (c .before .number-at .result) (Number 0)) =
-    c .ticks-by .ensures in
-    by
+    c .ticks-by .ensures
     ∙ ap (writes (s .text))
-    (ap (λ (n : ℕ). ticksBy (s .line .now) n (Number 0)) (c .before .number-at .ensures)
+    (ap (λ (n : ℕ). tickLineText (s .line .now) n (Number 0)) (c .before .number-at .ensures)
     ∙ on-eq (words (s .line .now)) 2 _ _ _ (sym (w .before .parts .ensures) ∙ w .if1 .taken) refl)
 
 part-requires : tie.Need-part-requires
@@ -51,11 +49,11 @@ returns-2 c =
     let x = c .before .before in
     let spelled = x .read-hexadecimal .ensures ∙ ap (spelledOf 16) (x .before .part .ensures) in
     let n = c .before .number-at2 .result in
-    let by : c .ticks-by2 .result ≡ writes (s .text) (ticksBy (s .line .now) n (x .read-hexadecimal .result)) =
+    let by : c .ticks-by2 .result ≡ writes (s .text) (tickLineText (s .line .now) n (x .read-hexadecimal .result)) =
     c .ticks-by2 .ensures in
     by
     ∙ ap (writes (s .text))
-    ((λ i. ticksBy (s .line .now) (c .before .number-at2 .ensures i) (spelled i))
+    ((λ i. tickLineText (s .line .now) (c .before .number-at2 .ensures i) (spelled i))
     ∙ on-ne (words (s .line .now)) 2 _ _ _ (λ e. w .before .if1 .left (h .parts .ensures ∙ e))
     (on-eq (words (s .line .now)) 3 _ _ _ (sym (h .parts .ensures) ∙ w .if2 .taken) refl))
 

@@ -8,8 +8,8 @@ use Rattle.laws.proofs.Pick.{on-eq, on-ne, told-true, told-false}
 use Rattle.phrases.specs.Meanings.{words}
 use Rattle.phrases.specs.Phrases.{isNumberAt, areDistances}
 use borrow.Author.Needs.{needs}
-use Rattle.phrases.proofs.asides.are_distances.Statement.{statement}
-use Rattle.phrases.proofs.asides.are_distances.Tie as tie
+use Rattle.phrases.proofs.programs.are_distances.Statement.{statement}
+use Rattle.phrases.proofs.programs.are_distances.Tie as tie
 
 -- What a test that was met, or was not, makes of the answer.
 yes : {t x b r : Bool} → b ≡ t → not b ≡ false → r ≡ x → r ≡ cond t x false

@@ -1,8 +1,8 @@
 -- All behind `silent `, or all. Assumes nothing.
 use Rattle.laws.proofs.Pick.{picks, tolds}
 use borrow.Author.Needs.{needs}
-use Rattle.phrases.proofs.loud.Statement.{statement}
-use Rattle.phrases.proofs.loud.Tie as tie
+use Rattle.phrases.proofs.unsilenced.Statement.{statement}
+use Rattle.phrases.proofs.unsilenced.Tie as tie
 
 is-silent-requires : tie.Need-is-silent-requires
 is-silent-requires c κs = search needs
@@ -16,5 +16,5 @@ returns c = search (picks, tolds)
 returns-2 : tie.Need-returns-2
 returns-2 c = search (picks, tolds)
 
-pub loud-spec : {M : Type 1} → statement M
-loud-spec = tie.close (tie.spec is-silent-requires rest-requires returns returns-2)
+pub unsilenced-spec : {M : Type 1} → statement M
+unsilenced-spec = tie.close (tie.spec is-silent-requires rest-requires returns returns-2)
