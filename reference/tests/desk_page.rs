@@ -21,25 +21,57 @@ fn rows(heading: &str) -> Vec<Vec<String>> {
         .collect()
 }
 
-/// Each row prints its last cell for its first.
-fn rows_hold(heading: &str, count: usize) -> Vec<String> {
+/// The headings of the tables with examples, in the order of the page.
+const HEADINGS: [&str; 4] = [
+    "| Words | What they ask for | Line |",
+    "| Words, with neither `silent` nor `as` | What is printed | Example |",
+    "| Line | What is printed |",
+    "| Reply | In words |",
+];
+
+/// The first cells of the table with this heading, of which each row prints its last cell.
+fn rows_hold(heading: &str) -> Vec<String> {
     let rows = rows(heading);
-    assert_eq!(rows.len(), count);
+    assert!(!rows.is_empty());
     for row in &rows {
         assert_eq!(answer(row[0].as_bytes()), format!("{}\n", row[row.len() - 1]), "{}", row[0]);
     }
     rows.into_iter().map(|row| row[0].clone()).collect()
 }
 
-/// The first cells of all tables with examples, in the order of the page.
+/// The examples in the text under the first table: "`words` prints `what is printed`", in the order of the page.
+fn texts_hold() -> Vec<String> {
+    let text = section().split_whitespace().collect::<Vec<&str>>().join(" ");
+    let quoted: Vec<&str> = text.split('`').collect();
+    let examples: Vec<&[&str]> = quoted.windows(3).filter(|three| three[1] == " prints ").collect();
+    for three in &examples {
+        assert_eq!(answer(three[0].as_bytes()), format!("{}\n", three[2]), "{}", three[0]);
+    }
+    examples.into_iter().map(|three| three[0].to_string()).collect()
+}
+
+/// `RESET`, of rule 2; then the first cells of all tables with examples, and those of the text, as the page has them.
 fn examples() -> Vec<String> {
-    let mut lines = rows_hold("| Words | What they ask for | Line |", 19);
-    lines.extend(["silent stop", "stop as A", "dwell 16384", "speed 0.3"].map(String::from));
-    lines.extend(rows_hold("| Words, with neither `silent` nor `as` | What is printed | Example |", 4));
-    lines.extend(rows_hold("| Reply | In words |", 19));
-    lines.push("S0600000".to_string());
-    lines.extend(rows_hold("| Line | What is printed |", 5));
+    assert!(section().contains("The capitals `RESET` are such a line: 20."));
+    assert!(answer(b"RESET").starts_with("turned away by 20: "));
+    let mut lines = vec!["RESET".to_string()];
+    lines.extend(rows_hold(HEADINGS[0]));
+    lines.extend(texts_hold());
+    lines.extend(HEADINGS[1..].iter().flat_map(|heading| rows_hold(heading)));
     lines
+}
+
+#[test]
+fn the_tables_in_their_order() {
+    let section = section();
+    let places = HEADINGS.map(|heading| section.find(heading).unwrap());
+    assert!(places.is_sorted());
+    let texts: Vec<usize> = section
+        .match_indices("` prints\n")
+        .chain(section.match_indices("` prints `"))
+        .map(|(place, _)| place)
+        .collect();
+    assert!(texts.iter().all(|place| (places[0]..places[1]).contains(place)));
 }
 
 #[test]
@@ -53,7 +85,9 @@ fn each_row_of_the_page() {
 fn the_stored_input_begins_with_the_page() {
     let text = desk_text();
     let stored: Vec<&[u8]> = text.split(|&byte| byte == b'\n').collect();
-    for (line, example) in stored.iter().zip(examples()) {
+    let examples = examples();
+    assert!(examples.len() < stored.len());
+    for (line, example) in stored.iter().zip(examples) {
         assert_eq!(*line, example.as_bytes());
     }
 }
@@ -67,6 +101,10 @@ fn what_the_stored_input_reaches() {
     for number in [3, 4, 5, 6, 7, 8, 9, 10, 11, 12, 13, 14, 15, 16, 17, 19, 20, 21] {
         let begins = format!("turned away by {number}: ");
         assert!(printed.iter().any(|line| line.starts_with(&begins)), "{number}");
+    }
+    for number in [1, 2, 18, 22, 23, 24] {
+        let begins = format!("turned away by {number}: ");
+        assert!(!printed.iter().any(|line| line.starts_with(&begins)), "{number}");
     }
     for (_, form) in reference::desk::FORMS {
         assert!(printed.contains(&format!("? {form}\n")), "{form}");

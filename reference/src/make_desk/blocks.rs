@@ -46,7 +46,8 @@ const ECHOES: [&str; 21] = [
     "S1D01000",
 ];
 
-/// From words: U with every number, S and s with all codes, R; each switch digit; each status bit.
+/// From words: U with every number, S and s with all codes, R; each switch digit; each
+/// status bit that the page's own rows do not have alone.
 pub(super) fn blocks(lines: &mut Lines) {
     for number in 0..=18 {
         lines.line(&format!("U70000{number:02X}"));
@@ -54,10 +55,10 @@ pub(super) fn blocks(lines: &mut Lines) {
     }
     lines.each(&COUNTERS);
     lines.each(&ECHOES);
-    for bit in 0..=8 {
+    for bit in [0, 1, 3, 7, 8] {
         lines.line(&format!("S06{:05X}", 1 << bit));
     }
-    lines.each(&["S0600003", "S060000B", "S0600023", "S0600044", "S0600050", "S060007C", "S060007D", "S060007E"]);
+    lines.each(&["S060000B", "S0600023", "S0600044", "S0600050", "S060007C", "S060007D", "S060007E"]);
     lines.each(&[
         "S060007F",
         "S060007FF",

@@ -3,7 +3,7 @@
 use super::lines::Lines;
 
 /// From words: first letters from one to a whole word and beyond, capitals and small letters.
-const WORDS: [&str; 61] = [
+const WORDS: [&str; 62] = [
     "S",
     "st",
     "sta",
@@ -42,6 +42,7 @@ const WORDS: [&str; 61] = [
     "h",
     "hi",
     "High",
+    "help",
     "o",
     "ou",
     "op",

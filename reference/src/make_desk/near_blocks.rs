@@ -3,7 +3,7 @@
 use super::lines::Lines;
 
 /// From words: lines that begin as a block (rule 2), each with one thing wrong.
-const NO_BLOCKS: [&str; 42] = [
+const NO_BLOCKS: [&str; 41] = [
     "U0",
     "U00",
     "U000000",
@@ -44,7 +44,6 @@ const NO_BLOCKS: [&str; 42] = [
     "R0abcdef",
     "RC000000",
     "R0 00012",
-    "RESET",
     "SEE",
 ];
 

@@ -32,13 +32,22 @@ const COMMANDS: [&str; 23] = [
 /// From words, second table.
 const PROGRAM_WORDS: [&str; 4] = ["opening", "master 5 2 3 0 0", "ticks 1000", "ticks 1000 000010"];
 
-/// From words, replies, and the status that is told under their table.
-const REPLIES: [&str; 20] = [
+/// From words, nearest forms.
+const NEAREST: [&str; 4] = ["Speed 5", "strt 0", "silent ticks 5", "?"];
+
+/// From words, replies.
+const REPLIES: [&str; 25] = [
     "U0000000",
     "U000000E",
     "S0281388",
     "S0000005",
+    "S0600000",
+    "S0600003",
     "S0600009",
+    "S0600004",
+    "S0600010",
+    "S0600020",
+    "S0600040",
     "S0800000",
     "S0880000",
     "S0900000",
@@ -53,16 +62,13 @@ const REPLIES: [&str; 20] = [
     "UA00000EB",
     "S0700000",
     "1 -1 0 0 0",
-    "S0600000",
 ];
-
-/// From words, nearest forms.
-const NEAREST: [&str; 5] = ["Speed 5", "strt 0", "silent ticks 5", "help", "?"];
 
 /// From words: the examples.
 pub(super) fn examples(lines: &mut Lines) {
+    lines.line("RESET");
     lines.each(&COMMANDS);
     lines.each(&PROGRAM_WORDS);
-    lines.each(&REPLIES);
     lines.each(&NEAREST);
+    lines.each(&REPLIES);
 }
