@@ -20,14 +20,17 @@ RESTS = re.compile(r"was not admitted|has no `Need-|has no field|not in scope|no
 
 def functions(text):
     """Of each line of a source file the function that it stands in as Type/name or name, the constant, or None."""
-    kind = name = None
+    kind = name = constant = None
     for line in text.splitlines():
         block = re.match(r"impl (\w+)", line)
         kind = block.group(1) if block else None if line == "}" and name is None else kind
-        entry, constant = FN.match(line), re.match(r"(?:pub )?const (\w+)", line)
+        entry, named = FN.match(line), re.match(r"(?:pub(?:\(crate\))? )?const (\w+)", line)
         if entry:
             name = f"{kind}/{entry.group(1)}" if kind else entry.group(1)
-        yield constant.group(1) if constant else name
+        constant = named.group(1) if named else constant
+        yield constant or name
+        if line.endswith(";"):
+            constant = None
         if line.strip() == "}" and line.index("}") == (4 if kind else 0):
             name = None
 

@@ -15,7 +15,7 @@ use Rattle.numerals.specs.declared.Signed.the-variants as Z
 use Rattle.numerals.specs.declared.Figure.{Figure}
 use Rattle.numerals.specs.declared.Figure.the-variants as F
 
--- The largest number that is told apart: a larger one counts as this, for no form takes as much.
+-- The largest number that is told apart: a larger one counts as this. No command takes as much.
 abbrev pub largest : ℕ
 largest = 4294967295
 

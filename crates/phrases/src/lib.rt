@@ -30,8 +30,8 @@ mod meaning;
 mod programs;
 mod single;
 
-// The characters of an over-long line that are looked at.
-const LOOKED_AT: usize = 100;
+// A line of so many characters is over-long, and so many of it are looked at.
+pub const OVERLONG: usize = 100;
 
 // The identification of a form, and the length of what stands before it.
 struct Named {
@@ -46,7 +46,7 @@ fn is_silent(line: &[u8]) -> bool
     parts::same(block::front(line, 7), b"silent ")
 }
 
-// What stands behind that, or all.
+// A line without `silent `.
 fn unsilenced(line: &[u8]) -> &[u8]
     ensures { λ r. ⌜ now r ≡ unsilenced (now (line .entry)) ⌝ }
 {
@@ -82,7 +82,7 @@ fn ident_in(line: &[u8]) -> Named
     }
 }
 
-// The form without either.
+// A line without `silent ` and its identification: the form.
 fn body(line: &[u8]) -> &[u8]
     ensures { λ r. ⌜ now r ≡ bodyOf (now (line .entry)) ⌝ }
 {
@@ -139,7 +139,8 @@ fn command(text: Text, line: &[u8]) -> Text
     requested(text, silent, ident, line, meant)
 }
 
-// A line of words.
+// A line of words. That what is printed for a command is its very line, and that a printed T line asks for these very
+// ticks, stand here as promises.
 pub fn words(text: Text, line: &[u8]) -> Text
     ensures { λ r. ⌜ r ≡ writes text (wordsText (now (line .entry))) ⌝ }
     ensures { λ _. ⌜ SameLine ⌝ }
@@ -162,6 +163,6 @@ pub fn words(text: Text, line: &[u8]) -> Text
 pub fn overlong(text: Text, line: &[u8]) -> Text
     ensures { λ r. ⌜ r ≡ writes text (overlongText (now (line .entry))) ⌝ }
 {
-    let first = unsilenced(block::front(line, LOOKED_AT));
+    let first = unsilenced(block::front(line, OVERLONG));
     sentences::question(text, parts::part(first, SPACE, 0))
 }

@@ -27,4 +27,5 @@ told = record {
   command = λ l c h m q x y z.
       ap (λ (t : List ℕ). t ++ (endByte ∷ [])) (wordy l h) ∙ same-line .said l c m q x y z;
   ticks = λ l w h k n a b q r. ap askedOf (wordy l h) ∙ tick-line .said l w k n a b q r;
+  ticks-alone = λ l h k n a b. ap askedOf (wordy l h) ∙ tick-line .alone l k n a b;
 }

@@ -37,6 +37,8 @@ Whole = (l : List ℕ) → length (answerOf l) ≤ 250
 abbrev pub Wordy : List ℕ → Type 0
 Wordy l = (length l < 100) × (isBlock l ≡ false) × (areSums l ≡ false)
 
+-- Blocks by their figures, words by the line that they ask for. `requestIn` and what the bench reads as ticks (session's
+-- `ticksBy n (Value w false)`, which is `Ticks n w`) are those of `SameLine` and `TickLine` of crate phrases.
 pub record Told : Type 0 where
   -- a reply block s that says f, its line feed in the place of 0D, is told by f
   pub reply : (s : List ℕ) (f : Figures) → Says s f → answerText (beforeEnd s) ≡ figureText f
@@ -48,6 +50,10 @@ pub record Told : Type 0 where
   pub ticks : (l : List ℕ) (w : ℕ) → Wordy l → placeOf (word 0 l) ≡ K.ticks → words l ≡ 3
       → 1 ≤ numberAt l 1 → numberAt l 1 ≤ 1000000 → spelledOf 16 (word 2 l) ≡ Number w → w < 16777216
       → askedOf (answerText l) ≡ ticksBy (numberAt l 1) (Value w false)
+  -- and without an input word, by 0
+  pub ticks-alone : (l : List ℕ) → Wordy l → placeOf (word 0 l) ≡ K.ticks → words l ≡ 2
+      → 1 ≤ numberAt l 1 → numberAt l 1 ≤ 1000000
+      → askedOf (answerText l) ≡ ticksBy (numberAt l 1) (Value 0 false)
 
 -- ---- A whole input
 

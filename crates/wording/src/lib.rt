@@ -23,13 +23,11 @@ ghost use Rattle.wording.specs.Wording.{
   finishedOf,
 };
 use numerals::Signed;
+use phrases::OVERLONG;
 use text::FEED;
 use text::SPACE;
 use text::Text;
 use text::parts;
-
-// A line of so many characters is over-long.
-const OVERLONG: usize = 100;
 
 // The characters since the last line feed.
 pub struct Desk {
