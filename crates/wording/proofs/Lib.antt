@@ -1,6 +1,9 @@
 pub mod MeantLengths
+pub mod OneLineLaws
 pub mod PageLaws
+pub mod ReplyLineLaws
 pub mod ToldLaws
 pub mod WholeLaws
+pub mod WordLineLaws
 pub mod WordingLaws
 pub mod WordsLengths

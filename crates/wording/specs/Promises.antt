@@ -1,6 +1,6 @@
 -- What the desk promises of every line and of every input.
 use Prim.Native.Nat.{ℕ, _≤_, _<_}
-use mathlib.Core.Bool.{true, false, cond}
+use mathlib.Core.Bool.{Bool, true, false, cond}
 use mathlib.Core.List.{List, [], _∷_, _++_}
 use mathlib.Core.Path.{_≡_}
 use lib.Dec.{eqb}
@@ -30,6 +30,15 @@ use Rattle.wording.specs.Wording.{areSums, answerText, answerOf, deskOf,
 -- No answer is cut: a text has room for 250 bytes, and each answer fits with its line feed.
 abbrev pub Whole : Type 0
 Whole = (l : List ℕ) → length (answerOf l) ≤ 250
+
+-- Whether a list has no line feed (10).
+unfoldable pub isLine : List ℕ → Bool
+isLine [] = true
+isLine (c ∷ cs) = cond (eqb c 10) false (isLine cs)
+
+-- Each line is answered with one line.
+abbrev pub OneLine : Type 0
+OneLine = (l : List ℕ) → isLine l ≡ true → isLine (answerText l) ≡ true
 
 -- ---- What a whole line is answered with
 

@@ -5,7 +5,7 @@ ghost use mathlib.Core.List.{[]};
 ghost use mathlib.Core.Path.{_≡_};
 ghost use Rattle.text.specs.Text.{holding, writes};
 ghost use Rattle.wording.specs.Page.{Page};
-ghost use Rattle.wording.specs.Promises.{Whole, Told, AnswersInOrder};
+ghost use Rattle.wording.specs.Promises.{Whole, OneLine, Told, AnswersInOrder};
 ghost use Rattle.wording.specs.Wording.{
   isSigned,
   isSumAt,
@@ -109,11 +109,12 @@ fn answer_text(text: Text, line: &[u8]) -> Text
     phrases::words(text, line)
 }
 
-// The answer to a line, with its line feed. That no answer is cut, that replies are told by their figures and commands
-// by their lines, and the examples of docs/PROTOCOL.md, stand here as promises.
+// The answer to a line, with its line feed. That no answer is cut, that each is one line, that replies are told by their
+// figures and commands by their lines, and the examples of docs/PROTOCOL.md, stand here as promises.
 pub fn answer(line: &[u8]) -> Text
     ensures { λ r. ⌜ r ≡ holding (answerOf (now (line .entry))) ⌝ }
     ensures { λ _. ⌜ Whole ⌝ }
+    ensures { λ _. ⌜ OneLine ⌝ }
     ensures { λ _. ⌜ Told ⌝ }
     ensures { λ _. ⌜ Page ⌝ }
 {
