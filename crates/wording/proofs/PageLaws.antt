@@ -24,7 +24,16 @@ use Rattle.block.specs.Block.{blockOf}
 use Rattle.figures.specs.Figures.{Answer, asks}
 use Rattle.figures.proofs.Trip.{speed-trip, slope-trip}
 use Rattle.wording.specs.Wording.{sumsIn, answerText}
-use Rattle.wording.specs.Page.{CommandRows, MarkRows, ProgramRows, ReplyRows, NearestRows, AxisRows, FormRows, Page}
+use Rattle.wording.specs.Page.{
+  CommandRows,
+  MarkRows,
+  ProgramRows,
+  ReplyRows,
+  NearestRows,
+  AxisRows,
+  FormRows,
+  Page,
+}
 
 -- What is printed for a figure whose units crate figures has read: what it reads is no matter of computing.
 abbrev asked : String → ℕ → Answer ℕ → List ℕ

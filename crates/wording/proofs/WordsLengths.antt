@@ -93,7 +93,8 @@ request-most silent ident l (M.Refused n) h = turned-most n h
 
 command-most : (l : List ℕ) → Short (commandText l)
 unfolding commandText
-command-most l = request-most (isSilent l) (namedOf (unsilenced l) .ident) l (meantBy (bodyOf l)) (small-meant (bodyOf l))
+command-most l =
+    request-most (isSilent l) (namedOf (unsilenced l) .ident) l (meantBy (bodyOf l)) (small-meant (bodyOf l))
 
 opening-most : (l : List ℕ) → Short (openingText l)
 opening-most l =

@@ -46,8 +46,8 @@ OneLine = (l : List ℕ) → isLine l ≡ true → isLine (answerText l) ≡ tru
 abbrev pub Wordy : List ℕ → Type 0
 Wordy l = (length l < 100) × (isBlock l ≡ false) × (areSums l ≡ false)
 
--- Blocks by their figures, words by the line that they ask for. `requestIn` and what the bench reads as ticks (session's
--- `ticksBy n (Value w false)`, which is `Ticks n w`) are those of `SameLine` and `TickLine` of crate phrases.
+-- Blocks by their figures, words by the line that they ask for. `requestIn` and what the bench reads as ticks
+-- (session's `ticksBy n (Value w false)`, which is `Ticks n w`) are those of `SameLine` and `TickLine` of phrases.
 pub record Told : Type 0 where
   -- a reply block s that says f, its line feed in the place of 0D, is told by f
   pub reply : (s : List ℕ) (f : Figures) → Says s f → answerText (beforeEnd s) ≡ figureText f

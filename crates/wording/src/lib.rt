@@ -109,8 +109,8 @@ fn answer_text(text: Text, line: &[u8]) -> Text
     phrases::words(text, line)
 }
 
-// The answer to a line, with its line feed. That no answer is cut, that each is one line, that replies are told by their
-// figures and commands by their lines, and the examples of docs/PROTOCOL.md, stand here as promises.
+// The answer to a line, with its line feed. That no answer is cut, that each is one line, that replies are told by
+// their figures and commands by their lines, and the examples of docs/PROTOCOL.md, stand here as promises.
 pub fn answer(line: &[u8]) -> Text
     ensures { λ r. ⌜ r ≡ holding (answerOf (now (line .entry))) ⌝ }
     ensures { λ _. ⌜ Whole ⌝ }
