@@ -1,7 +1,7 @@
 #!/usr/bin/env python3
-"""Holds include/temixohuel.h and include/temixohuel.rs to the firmware library: ci/layout.py, from the root
+"""Holds include/temixohuel.h and include/temixohuel.rs to the libraries for firmware: ci/layout.py, from the root
 
-Sizes come from the MIR that the toolchain makes of crate firmware, from the sources and with no proof; what crosses is
+Sizes come from the MIR that the toolchain makes of their crates, from the sources and with no proof; what crosses is
 #[repr(C)], so C's rules lay it out. Names, signs and signatures come from the sources. All of it is written to
 target/layout/ as assertions, which gcc and rustc check. Exit 1, naming what differs.
 """
@@ -19,11 +19,13 @@ CROSSING = [
     (("controller", "TickAnswer"), "temixohuel_tick_answer", "TickAnswer"),
     (("firmware", "Travels"), "temixohuel_travel_answer", "TravelAnswer"),
     (("firmware", "Positions"), "temixohuel_position_answer", "PositionAnswer"),
+    (("trial", "Trial"), "temixohuel_trial_answer", "TrialAnswer"),
     (("journal", "Entry"), "temixohuel_entry", "Entry"),
     (("journal", "Appended"), "temixohuel_append_answer", "AppendAnswer"),
     (("journal", "EntryAt"), "temixohuel_read_answer", "ReadAnswer"),
 ]
 OPAQUE = ("controller", "Controller")
+LIBRARIES = ("firmware", "trial")  # one archive each
 WORDS = re.compile(r'"[^"]*"|[()]|[^\s()]+')
 C_NUMBERS = {f"{sign}{n}": f"{'u' * (sign == 'u')}int{n}_t" for sign in "iu" for n in (8, 16, 32, 64)}
 C_NUMBERS |= {"usize": "size_t", "bool": "_Bool", "*mut u8": "uint8_t *", "*const u8": "const uint8_t *"}
@@ -32,18 +34,18 @@ HEADER, BINDING, ROOM = Path("include/temixohuel.h"), Path("include/temixohuel.r
 
 
 def mir():
-    """The MIR of crate firmware and of the crates it stands on."""
+    """The MIR of the libraries' crates and of those they stand on."""
     guide = Path(subprocess.run(["rt", "doc"], check=True, capture_output=True, text=True).stdout.strip())
     kit = guide.parent.parent
-    line = next(line for line in Path("crates.txt").read_text().splitlines() if line.startswith("firmware:"))
-    libraries = {name: f"crates/{name}/src/lib.rt" for name in line.replace(":", "").split()}
+    lines = [line for line in Path("crates.txt").read_text().splitlines() if line.split(":")[0] in LIBRARIES]
+    libraries = {name: f"crates/{name}/src/lib.rt" for line in lines for name in line.replace(":", "").split()}
     libraries["std"] = kit / "libs/std/src/lib.rt"
     ROOM.mkdir(parents=True, exist_ok=True)
     (ROOM / "main.rt").write_text("fn main() {}\n")
     words = [word for name, path in libraries.items() for word in ("--lib", f"{name}={path}")]
     printer = kit / "on" / platform.machine() / "bin/rattle-print-mir"
     said = subprocess.run([printer, ROOM / "main.rt", "--crate-name", "layout", *words], capture_output=True, text=True)
-    return said.stdout or sys.exit(f"layout: no MIR of crate firmware\n{said.stderr}")
+    return said.stdout or sys.exit(f"layout: no MIR of the libraries\n{said.stderr}")
 
 
 def term(words):
@@ -104,8 +106,9 @@ def fields_of(rattle):
 
 
 def functions():
-    """Name, types of the parameters and type of the result of each function of the library."""
-    for name, words, result in re.findall(r'pub extern "C" fn (\w+)\(([^)]*)\) -> (\w+)', source("firmware")):
+    """Name, types of the parameters and type of the result of each function of the libraries."""
+    text = "".join(map(source, LIBRARIES))
+    for name, words, result in re.findall(r'pub extern "C" fn (\w+)\(([^)]*)\) -> (\w+)', text):
         kinds = [part.split(": ")[1] for part in words.split(", ")]
         yield name, [kind for word in kinds for kind in SLICES.get(word, [word])], result
 

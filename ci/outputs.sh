@@ -1,18 +1,19 @@
 #!/usr/bin/env bash
 # Stored outputs against the reference's programs: ci/outputs.sh compares, ci/outputs.sh make writes them anew. Each
-# NAME.in has its NAME.out beside it; crates/bench and crates/desk have stdin and stdout; docs/recipe.out is what the
-# words of docs/recipe.txt come to by way of the bench program; the program vectors prints the answers to all files that
-# its args name.
+# NAME.in has its NAME.out beside it; crates/bench, crates/desk and crates/preview have stdin and stdout;
+# docs/recipe.out is what the words of docs/recipe.txt come to by way of the bench program, docs/trial.out what those of
+# docs/trial.txt show on screen; the program vectors prints the answers to all files that its args name.
 set -eu
 cd "$(dirname "$0")/.."
 cargo build --release --offline --quiet --manifest-path reference/Cargo.toml
-# The reference's program for what a file holds: a session, lists, vectors or words.
+# The reference's program for what a file holds: a session, lists, vectors or words, or a session for the screen.
 printer() {
     case "$1" in
         session) echo reference/target/release/bench_reference ;;
         lists) echo reference/target/release/lists_reference ;;
         vectors) echo reference/target/release/host_reference ;;
         words) echo reference/target/release/desk_reference ;;
+        screen) echo reference/target/release/preview_reference ;;
     esac
 }
 # What the program vectors must print: of each file its name and its answers.
@@ -28,7 +29,9 @@ printed() {
         crates/vectors/stdout) all_answers ;;
         crates/bench/stdout) "$(printer session)" < crates/bench/stdin ;;
         crates/desk/stdout) "$(printer words)" < crates/desk/stdin ;;
+        crates/preview/stdout) "$(printer screen)" < crates/preview/stdin ;;
         docs/recipe.out) "$(printer words)" < docs/recipe.txt | "$(printer session)" | "$(printer words)" ;;
+        docs/trial.out) "$(printer words)" < docs/trial.txt | "$(printer screen)" ;;
         *) "$(printer session)" < "${1%.out}.in" ;;
     esac
 }

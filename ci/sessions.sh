@@ -1,7 +1,7 @@
 #!/usr/bin/env bash
 # Every stored session on the bench program, at once and in pieces of 7 bytes, against its stored output; then the bench
-# program and the desk line by line (ci/interactive.py), and a recipe through both (ci/recipe.sh).
-# It runs target/bin/bench and target/bin/desk, which `rt check bench desk` proves and builds.
+# program and the desk line by line (ci/interactive.py), a recipe through both and trials through the preview
+# (ci/recipe.sh). It runs the programs of target/bin, which `rt check bench desk preview` proves and builds.
 set -eu
 cd "$(dirname "$0")/.."
 # The replies that are stored for a session.

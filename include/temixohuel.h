@@ -1,5 +1,6 @@
 /*
- * The blending controller for firmware in C or C++: link target/staticlib/libfirmware.a (`rt staticlib firmware`).
+ * The blending controller for firmware in C or C++: link target/staticlib/libfirmware.a (`rt staticlib firmware`), and
+ * for temixohuel_trial also target/staticlib/libtrial.a (`rt staticlib trial`).
  *
  * What a caller owes:
  * - A controller is one that power-on and these calls alone made: the `controller` of an answer of temixohuel_power_on,
@@ -33,15 +34,15 @@ enum {
     TEMIXOHUEL_TAKEN = 0,           /* nothing turned away */
     TEMIXOHUEL_SWITCH = 1,          /* power-on: switch over 15, or 12; the controller has switch 0 */
     TEMIXOHUEL_BUFFER = 2,          /* byte or tick: buffer under 120 bytes; not taken */
-    TEMIXOHUEL_WORD = 3,            /* tick: input word over FFFFFF; no tick */
+    TEMIXOHUEL_WORD = 3,            /* tick or trial: input word over FFFFFF; no tick */
     TEMIXOHUEL_LENGTH = 4,          /* line: under 2 or over 9 characters */
     TEMIXOHUEL_LETTER = 5,          /* line: first character not P, Q, q, W */
     TEMIXOHUEL_SECOND = 6,          /* line: second character not 0 or 4 */
     TEMIXOHUEL_DIGIT = 7,           /* line: no digit, or no identification */
     TEMIXOHUEL_CODE = 8,            /* line: code absent or unlisted */
     TEMIXOHUEL_COUNT = 9,           /* line: digit count not the code's */
-    TEMIXOHUEL_RANGE = 10,          /* line: value out of range */
-    TEMIXOHUEL_MOVING = 11,         /* line: a move runs */
+    TEMIXOHUEL_RANGE = 10,          /* line: value out of range; trial: master over 4 */
+    TEMIXOHUEL_MOVING = 11,         /* line or trial: a move runs */
     TEMIXOHUEL_EMERGENCY = 12,      /* start: emergency held */
     TEMIXOHUEL_SENSOR = 13,         /* start: sensor active */
     TEMIXOHUEL_LONGER = 14,         /* start: an axis longer than the master */
@@ -50,7 +51,8 @@ enum {
     TEMIXOHUEL_POSITION = 17,       /* start: a final position out of range */
     TEMIXOHUEL_SPACE = 22,          /* append: no space for the whole entry; nothing is written */
     TEMIXOHUEL_CUT = 23,            /* read: the bytes end within an entry */
-    TEMIXOHUEL_SPELLING = 24        /* a value out of range; read: or no shortest spelling of seven groups at most */
+    TEMIXOHUEL_SPELLING = 24,       /* a value out of range; read: or no shortest spelling of seven groups at most */
+    TEMIXOHUEL_TICKS = 25           /* trial: over 1,000,000 ticks */
 };
 
 typedef struct {
@@ -94,6 +96,14 @@ typedef struct {
     int64_t axes[TEMIXOHUEL_AXES];
 } temixohuel_position_answer;
 
+/* What a start and so many ticks would leave; with a number all else is 0. */
+typedef struct {
+    int64_t positions[TEMIXOHUEL_AXES];
+    uint32_t travels[TEMIXOHUEL_AXES];
+    uint32_t end;                   /* the tick that ends the move, counted from 1; 0 where it is not reached */
+    uint8_t number;                 /* 0, 3, 25, 10, or 11 to 17 as a start line meets them */
+} temixohuel_trial_answer;
+
 typedef struct {
     size_t next;                    /* the place after the entry; the given one where it is refused */
     uint8_t number;                 /* 0, 22 or 24 */
@@ -129,6 +139,11 @@ temixohuel_position_answer temixohuel_positions(temixohuel_controller c);
 uint8_t temixohuel_status(temixohuel_controller c);
 uint32_t temixohuel_speed(temixohuel_controller c);
 uint32_t temixohuel_slope(temixohuel_controller c);
+
+/* What a plain start with this master (0 to 4), a half-received line aside, and so many ticks (0 to 1,000,000), each
+   with this input word, would leave. Nothing is done: c is as it was. The start reads the inputs of the last tick. It is
+   in an archive of its own, libtrial.a; 1,000,000 ticks take some 5 ms. */
+temixohuel_trial_answer temixohuel_trial(temixohuel_controller c, uint32_t master, uint32_t word, uint32_t ticks);
 
 /* An entry written at the place at of a journal; the bytes before and after it keep their values. 24 is before 22. */
 temixohuel_append_answer temixohuel_append(uint8_t *buf, size_t length, size_t at, temixohuel_entry entry);

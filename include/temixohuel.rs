@@ -1,4 +1,5 @@
-//! The blending controller for firmware in Rust: link target/staticlib/libfirmware.a (`rt staticlib firmware`).
+//! The blending controller for firmware in Rust: link target/staticlib/libfirmware.a (`rt staticlib firmware`), and for
+//! `trial` also target/staticlib/libtrial.a (`rt staticlib trial`).
 //!
 //! What include/temixohuel.h asks of a caller in C is here a type: the field of `Controller` is private, so that only
 //! power-on and calls make one, and `&mut` keeps calls and memory apart. The numbers are those of the header. A journal
@@ -60,6 +61,17 @@ struct PositionAnswer {
     axes: [i64; 5],
 }
 
+/// What a plain start and so many ticks would leave: positions, travels, the tick that ends the move, counted from 1, or
+/// 0 where it is not reached, and 0; or a number, and zeros.
+#[repr(C)]
+#[derive(Clone, Copy, Debug, PartialEq, Eq)]
+pub struct TrialAnswer {
+    pub positions: [i64; 5],
+    pub travels: [u32; 5],
+    pub end: u32,
+    pub number: u8,
+}
+
 /// What an append answers: the place after the entry and 0; or the given place and 22 or 24.
 #[repr(C)]
 #[derive(Clone, Copy, Debug, PartialEq, Eq)]
@@ -88,6 +100,7 @@ extern "C" {
     fn temixohuel_status(c: Opaque) -> u8;
     fn temixohuel_speed(c: Opaque) -> u32;
     fn temixohuel_slope(c: Opaque) -> u32;
+    fn temixohuel_trial(c: Opaque, master: u32, word: u32, ticks: u32) -> TrialAnswer;
     fn temixohuel_append(buf: *mut u8, length: usize, at: usize, entry: Entry) -> AppendAnswer;
     fn temixohuel_read(bytes: *const u8, length: usize, at: usize) -> ReadAnswer;
 }
@@ -145,6 +158,13 @@ impl Controller {
     /// The slope setting in units of 1.25 kHz/s.
     pub fn slope(&self) -> u32 {
         unsafe { temixohuel_slope(self.0) }
+    }
+
+    /// What a plain start with this master (0 to 4), a half-received line aside, and so many ticks (0 to 1,000,000),
+    /// each with this input word, would leave. Nothing is done. The number is 0, 3, 25, 10, or 11 to 17 as a start line
+    /// meets them.
+    pub fn trial(&self, master: u32, word: u32, ticks: u32) -> TrialAnswer {
+        unsafe { temixohuel_trial(self.0, master, word, ticks) }
     }
 }
 

@@ -1,15 +1,19 @@
 //! Where an operator works: a bench that takes lines and ticks and keeps them, as text or as a list of calls.
 
 mod called;
+mod previewed;
+mod tried;
 mod typed;
 
 pub use called::Called;
+pub use previewed::Previewed;
 pub use typed::Typed;
 
 use crate::coverage::Coverage;
 use crate::observed::Observed;
 use crate::random::Random;
-use reference::Machine;
+use crate::trial::Asked;
+use reference::{Machine, Trial};
 
 /// What every kind of bench stands on: the reference, and the ticks that may still be run.
 pub struct Stand {
@@ -40,6 +44,11 @@ impl Stand {
 
     fn readings(&mut self) {
         self.observed.readings();
+    }
+
+    /// A trial, whose ticks are none of those that may be run.
+    fn trial(&mut self, asked: Asked) -> Trial {
+        self.observed.trial(asked)
     }
 
     fn seen(self) -> Coverage {

@@ -17,6 +17,11 @@ pub const HELD: u32 = 1 << 5;
 /// Status bit 6: stopped by the sensor.
 pub const BY_SENSOR: u32 = 1 << 6;
 
+/// Whether a dwell runs, by the status.
+pub fn in_dwell(status: u32) -> bool {
+    status & (BUSY | MOVING) == BUSY
+}
+
 /// Input bits of all ten limits.
 pub const LIMITS: u32 = 0x3FF;
 /// Input bit of the emergency.

@@ -3,10 +3,12 @@
 mod blocks;
 mod marks;
 mod moves;
+mod trials;
 
 pub use blocks::Blocks;
 pub use marks::Marks;
 pub use moves::{Cause, Moves};
+pub use trials::{Met, Trials};
 
 use crate::counted::{add_each, grouped, listed, Counted};
 use std::fmt;
@@ -26,6 +28,7 @@ pub struct Coverage {
     pub readings: u64,
     pub moves: Moves,
     pub blocks: Blocks,
+    pub trials: Trials,
     pub switches: Marks,
     /// Lengths of buffers lent to bytes, and to ticks.
     pub lent: Marks,
@@ -55,6 +58,7 @@ impl Counted for Coverage {
         self.add_traffic(more);
         self.moves.add(&more.moves);
         self.blocks.add(&more.blocks);
+        self.trials.add(&more.trials);
         self.switches.join(&more.switches);
         self.lent.join(&more.lent);
         self.lent_to_ticks.join(&more.lent_to_ticks);
@@ -72,6 +76,7 @@ impl fmt::Display for Coverage {
         writeln!(f, "  switches {switches} of 256, lengths of buffers lent to bytes {lent}, to ticks {to_ticks}")?;
         write!(f, "{}{}", self.blocks, self.moves)?;
         let numbers = (1..=LAST_NUMBER).map(|number| (format!("{number}:"), self.numbers[number]));
-        writeln!(f, "  numbers: {}", listed(numbers))
+        writeln!(f, "  numbers: {}", listed(numbers))?;
+        write!(f, "{}", self.trials)
     }
 }

@@ -1,8 +1,13 @@
 //! A reference machine whose answers and status are counted.
 
+mod followed;
+mod tried;
+
 use crate::bits::{BLOCKED, BY_SENSOR, HELD, MOVING, STOPPED};
 use crate::call::LONGEST_LENT;
 use crate::coverage::{Cause, Coverage};
+use crate::operator::WATCH_OFF;
+use followed::Followed;
 use reference::journal::Entry;
 use reference::{front, ByteAnswer, Machine};
 
@@ -13,16 +18,9 @@ pub struct Observed {
     status: u32,
     /// A stop of the running move has begun.
     stop_begun: bool,
-    /// The characters of the line under way, and whether a watch line has been accepted since power-on.
+    /// The characters of the line under way, and what the lines before it have set.
     line: Vec<u8>,
-    watch_set: bool,
-    /// The block of a W line is still to come.
-    settling: bool,
-}
-
-/// Whether a line, if it is accepted, sets the watch.
-fn is_watch_line(line: &[u8]) -> bool {
-    line.first() == Some(&b'P') && matches!(line.get(2), Some(b'B' | b'b'))
+    followed: Followed,
 }
 
 impl Observed {
@@ -32,12 +30,13 @@ impl Observed {
         seen.number(number);
         seen.switches.mark(switch);
         let status = machine.status();
-        Observed { machine, seen, status, stop_begun: false, line: Vec::new(), watch_set: false, settling: false }
+        Observed { machine, seen, status, stop_begun: false, line: Vec::new(), followed: Followed::power_on() }
     }
 
     /// As the bench programs begin: the host's first line was accepted, and is not counted (paper 02, 2/14).
     pub fn opened() -> Observed {
-        Observed { machine: reference::bench::opened(), watch_set: true, ..Observed::power_on(0) }
+        let followed = Followed { watch: WATCH_OFF, watch_set: true, ..Followed::power_on() };
+        Observed { machine: reference::bench::opened(), followed, ..Observed::power_on(0) }
     }
 
     pub fn machine(&self) -> &Machine {
@@ -45,7 +44,10 @@ impl Observed {
     }
 
     /// What the machine has met.
-    pub fn into_seen(self) -> Coverage {
+    pub fn into_seen(mut self) -> Coverage {
+        if self.seen.trials.trials > 0 {
+            self.seen.trials.switches.join(&self.seen.switches);
+        }
         self.seen
     }
 
@@ -71,7 +73,7 @@ impl Observed {
             self.seen.lines += 1;
             let line = std::mem::take(&mut self.line);
             if answer.number == 0 {
-                self.follow_accepted(&line);
+                self.followed.accepted(&line, self.status, &mut self.seen.blocks);
             }
             self.follow_line();
         } else {
@@ -94,22 +96,12 @@ impl Observed {
         self.seen.reply_bytes += answer.len as u64;
         self.seen.blocks.tick(&answer, word, lent);
         self.seen.lent_to_ticks.mark(lent.len().min(LONGEST_LENT) as u8);
-        self.settling &= answer.len == 0;
         self.seen.moves.pulses += answer.pulses.iter().any(|&pulse| pulse != 0) as u64;
         if answer.number != 0 {
             self.seen.number(answer.number);
         }
         self.follow_tick(answer.entry);
-    }
-
-    /// An accepted line may set the watch; a W line takes the place of one whose block is still to come.
-    fn follow_accepted(&mut self, line: &[u8]) {
-        self.watch_set |= is_watch_line(line);
-        if line.first() == Some(&b'W') {
-            let asks = line.get(1) == Some(&b'0');
-            self.seen.blocks.w_line(asks, self.settling);
-            self.settling = asks;
-        }
+        self.followed.ticked(answer.len, self.status);
     }
 
     fn begin_move(&mut self) {
@@ -149,7 +141,7 @@ impl Observed {
     fn follow_causes(&mut self, before: u32) {
         let risen = self.status & !before;
         if risen & STOPPED != 0 {
-            let watch = if self.watch_set { Cause::Watch } else { Cause::PowerOnWatch };
+            let watch = if self.followed.watch_set { Cause::Watch } else { Cause::PowerOnWatch };
             self.seen.moves.cause(if self.status & BLOCKED != 0 { Cause::Limit } else { watch });
         }
         if risen & HELD != 0 {

@@ -1,8 +1,9 @@
-//! The two machines that are compared, asked alike: the proved controller through its firmware library, the reference.
+//! The two machines that are compared, asked alike: the proved controller through its firmware library, its trials
+//! through the trial library; the reference.
 
 use crate::temixohuel::{self, Controller};
 use reference::journal::Entry;
-use reference::{ByteAnswer, Machine, TickAnswer};
+use reference::{ByteAnswer, Machine, TickAnswer, Trial};
 
 /// What a machine tells and no call alters.
 #[derive(Clone, Copy, Debug, PartialEq, Eq)]
@@ -20,6 +21,7 @@ pub trait Played: Sized {
     fn byte(&mut self, b: u8, lent: &mut [u8]) -> ByteAnswer;
     fn tick(&mut self, word: u32, lent: &mut [u8]) -> TickAnswer;
     fn readings(&self) -> Readings;
+    fn trial(&self, master: u32, word: u32, ticks: u32) -> Trial;
 }
 
 /// What the library has for an entry in the answer of a tick that ends no move.
@@ -36,6 +38,13 @@ impl From<Entry> for temixohuel::Entry {
     fn from(entry: Entry) -> temixohuel::Entry {
         let Entry { ticks, cause, travels } = entry;
         temixohuel::Entry { ticks, cause, travels }
+    }
+}
+
+impl From<temixohuel::TrialAnswer> for Trial {
+    fn from(answer: temixohuel::TrialAnswer) -> Trial {
+        let temixohuel::TrialAnswer { positions, travels, end, number } = answer;
+        Trial { number, end, travels, positions }
     }
 }
 
@@ -68,6 +77,10 @@ impl Played for Controller {
         let (travels, positions, status) = (self.travels(), self.positions(), self.status() as u32);
         Readings { travels, positions, status, speed: self.speed(), slope: self.slope() }
     }
+
+    fn trial(&self, master: u32, word: u32, ticks: u32) -> Trial {
+        Controller::trial(self, master, word, ticks).into()
+    }
 }
 
 impl Played for Machine {
@@ -86,5 +99,9 @@ impl Played for Machine {
     fn readings(&self) -> Readings {
         let (travels, positions, status) = (self.travels(), self.positions().map(i64::from), self.status());
         Readings { travels, positions, status, speed: self.speed(), slope: self.slope() }
+    }
+
+    fn trial(&self, master: u32, word: u32, ticks: u32) -> Trial {
+        reference::trial(self, master, word, ticks)
     }
 }

@@ -5,28 +5,48 @@ use std::io;
 use std::path::{Path, PathBuf};
 use std::process::Command;
 
-/// The proved bench program, host end and desk, and the folder of working files, from the root of the repository.
+/// The proved bench program, host end, desk and preview, the reference's programs that are run, and the folder of
+/// working files, from the root of the repository.
 pub const BENCH: &str = "target/bin/bench";
 pub const HOST: &str = "target/bin/vectors";
 pub const DESK: &str = "target/bin/desk";
+pub const PREVIEW: &str = "target/bin/preview";
+pub const BENCH_REFERENCE: &str = "reference/target/release/bench_reference";
+pub const PREVIEW_REFERENCE: &str = "reference/target/release/preview_reference";
 pub const FOLDER: &str = "target/compare";
 
 /// Said where an output has no such line.
 pub const END_OF_OUTPUT: &str = "(end of output)";
 
-/// Where the proved programs stand (`host` runs the host end, `desk` is that for people) and where working files go.
+/// Where the proved programs stand (`host` runs the host end, `desk` is that for people), where the reference's preview
+/// stands, and where working files go.
 #[derive(Clone, Debug)]
 pub struct Places {
     pub bench: PathBuf,
     pub host: PathBuf,
     pub desk: PathBuf,
+    pub preview: PathBuf,
+    pub preview_reference: PathBuf,
     pub folder: PathBuf,
 }
 
 impl Places {
     /// Where they stand from the root of the repository.
     pub fn of_repository() -> Places {
-        Places { bench: BENCH.into(), host: HOST.into(), desk: DESK.into(), folder: FOLDER.into() }
+        Places {
+            bench: BENCH.into(),
+            host: HOST.into(),
+            desk: DESK.into(),
+            preview: PREVIEW.into(),
+            preview_reference: PREVIEW_REFERENCE.into(),
+            folder: FOLDER.into(),
+        }
+    }
+
+    /// The first program that is not there.
+    pub fn absent(&self) -> Option<&Path> {
+        let programs = [&self.bench, &self.host, &self.desk, &self.preview, &self.preview_reference];
+        programs.into_iter().map(PathBuf::as_path).find(|program| !program.is_file())
     }
 }
 

@@ -11,6 +11,12 @@ pub mod part {
     pub const VECTORS: u64 = 3;
     pub const TIMED_BYTES: u64 = 4;
     pub const WORDS: u64 = 5;
+    /// The trials of a list: they have random numbers of their own, so that the calls between them stay what they were
+    /// until one is done for real.
+    pub const TRIALS: u64 = 6;
+    pub const PREVIEW: u64 = 7;
+    /// The D lines of a preview.
+    pub const SCREENS: u64 = 8;
 }
 
 /// A sequence of random numbers.

@@ -76,6 +76,7 @@ pub fn replay<M: Played>(switch: u8, calls: &[u8]) -> u32 {
 mod tests {
     use super::*;
     use crate::list;
+    use crate::step::Step;
     use reference::{lists, Machine};
 
     /// A call as the page of stored lists has it.
@@ -89,11 +90,18 @@ mod tests {
         }
     }
 
+    /// The calls of a list; its trials alter nothing.
+    fn calls_of(list: list::List) -> Vec<Call> {
+        let (steps, _) = list::steps_of(list);
+        let call = |step| if let Step::Call(call) = step { Some(call) } else { None };
+        steps.into_iter().filter_map(call).collect()
+    }
+
     #[test]
     fn the_digest_is_that_of_stored_lists() {
         for index in 0..16 {
             let list = list::plan(1, index);
-            let (calls, _) = list::calls_of(list);
+            let calls = calls_of(list);
             let bytes: Vec<u8> = calls.iter().flat_map(Call::bytes).collect();
             let stored: Vec<lists::Call> = calls.iter().map(stored).collect();
             assert_eq!(replay::<Machine>(list.switch, &bytes), lists::play(list.switch, &stored));

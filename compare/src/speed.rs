@@ -1,5 +1,5 @@
-//! What a tick, a line, a character, a whole input and the dearest single calls cost: the proved code, the reference,
-//! and the plain C floor where it is found.
+//! What a tick, a line, a character, a whole input, the dearest single calls and a trial cost: the proved code, the
+//! reference, and the plain C floor where it is found.
 
 pub mod calls;
 pub mod clock;
@@ -8,3 +8,4 @@ pub mod load;
 pub mod programs;
 pub mod single;
 pub mod steady;
+pub mod trials;

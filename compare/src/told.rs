@@ -12,7 +12,7 @@ enum Kind<'a> {
     Number(u8),
     /// Words of a reply block: what it is, and its number if it has one that turns away.
     Block(&'a str, Option<u8>),
-    /// `opening`, `master` and its axis, `ticks` or `sums`.
+    /// `opening`, `master` and its axis, `ticks`, a form of `trial`, or `sums`.
     Other(&'a str),
     /// `?` and the first word of the nearest form, or `all words`.
     Question(&'a str),
@@ -30,6 +30,8 @@ pub struct Told {
     silent: u64,
     identified: u64,
     numbers: Named<u8>,
+    /// Those of `trial` once more, since `ticks` has 3 too.
+    trial_numbers: Named<u8>,
     blocks: Named<String>,
     block_numbers: Named<u8>,
     switches: Named<char>,
@@ -62,10 +64,20 @@ fn behind(text: &str, mark: &str) -> Option<char> {
     text.split_once(mark).and_then(|(_, behind)| behind.chars().next())
 }
 
-fn turned_away(behind: &str) -> Kind<'_> {
+/// The desk's own number, or that of a reply block; 10 is of both kinds.
+fn turned_away<'a>(line: &[u8], behind: &'a str) -> Kind<'a> {
     match number_at_front(behind) {
-        number @ (3 | 19..) => Kind::Number(number),
-        number => Kind::Block("turned away", Some(number)),
+        number @ 4..=17 if line.starts_with(b"U") => Kind::Block("turned away", Some(number)),
+        number => Kind::Number(number),
+    }
+}
+
+/// The form of a trial that became a D line.
+fn trial_form(line: &[u8]) -> &'static str {
+    match line.iter().filter(|&&byte| byte == b' ').count() {
+        1 => "trial 0",
+        2 => "trial 0 6000",
+        _ => "trial 0 6000 002000",
     }
 }
 
@@ -78,9 +90,9 @@ fn question(form: &str) -> Kind<'_> {
     }
 }
 
-fn kind_of(answer: &str) -> Kind<'_> {
+fn kind_of<'a>(line: &[u8], answer: &'a str) -> Kind<'a> {
     if let Some(behind) = answer.strip_prefix("turned away by ") {
-        return turned_away(behind);
+        return turned_away(line, behind);
     }
     if let Some(form) = answer.strip_prefix("? ") {
         return question(form);
@@ -88,6 +100,7 @@ fn kind_of(answer: &str) -> Kind<'_> {
     match answer.as_bytes() {
         b"P0B0" => Kind::Other("opening"),
         [b'T', ..] => Kind::Other("ticks"),
+        [b'D', ..] => Kind::Other(trial_form(line)),
         [b'm', ..] => Kind::Other(answer),
         [b'p', b'u', ..] => Kind::Other("sums"),
         [b'P' | b'Q' | b'q' | b'W', ..] => Kind::Line,
@@ -119,11 +132,18 @@ impl Told {
         behind(answer, "(as ").into_iter().for_each(|digit| self.identifications.count(digit));
     }
 
+    fn count_number(&mut self, line: &[u8], number: u8) {
+        self.numbers.count(number);
+        if line.starts_with(b"trial ") {
+            self.trial_numbers.count(number);
+        }
+    }
+
     pub fn count(&mut self, line: &[u8], answer: &str) {
         self.count_line(line);
-        match kind_of(answer) {
+        match kind_of(line, answer) {
             Kind::Line => self.count_command(line, answer),
-            Kind::Number(number) => self.numbers.count(number),
+            Kind::Number(number) => self.count_number(line, number),
             Kind::Block(word, number) => self.count_block(word, number, answer),
             Kind::Other(word) => self.others.count(word.to_string()),
             Kind::Question(word) => self.questions.count(word.to_string()),
@@ -141,6 +161,7 @@ impl Counted for Told {
         self.silent += more.silent;
         self.identified += more.identified;
         self.numbers.add(&more.numbers);
+        self.trial_numbers.add(&more.trial_numbers);
         self.blocks.add(&more.blocks);
         self.block_numbers.add(&more.block_numbers);
         self.switches.add(&more.switches);
@@ -158,7 +179,8 @@ impl fmt::Display for Told {
         let around = format!("silent {}, with an identification {}", g(self.silent), g(self.identified));
         writeln!(f, "  answered by a line {}, of these {around}", g(self.commands.sum()))?;
         writeln!(f, "  words that became a line: {}", self.commands.listed())?;
-        writeln!(f, "  numbers of the desk: {}", self.numbers.listed_with_colons())?;
+        let of_trials = self.trial_numbers.listed_with_colons();
+        writeln!(f, "  numbers of the desk: {}; of these trials: {of_trials}", self.numbers.listed_with_colons())?;
         writeln!(f, "  reply blocks {}: {}", g(self.blocks.sum()), self.blocks.listed())?;
         writeln!(f, "  numbers in reply blocks: {}", self.block_numbers.listed_with_colons())?;
         writeln!(f, "  switches in reply blocks, but 0: {}", self.switches.listed_with_colons())?;

@@ -11,6 +11,9 @@ mod reply;
 mod sums;
 mod wish;
 
+pub use long::lengthened;
+pub use number::{decimal, hexadecimal, spelled, spelled_in_16};
+
 use crate::random::Random;
 use crate::touch::Touch;
 
@@ -35,7 +38,7 @@ fn stray(random: &mut Random, byte: u8) -> u8 {
 }
 
 /// One character is replaced or dropped, or one is put in, anywhere from the front to the end.
-fn touched(random: &mut Random, mut line: Vec<u8>) -> Vec<u8> {
+pub fn touched(random: &mut Random, mut line: Vec<u8>) -> Vec<u8> {
     let at = random.below(line.len() as u32 + 1) as usize;
     let stray = stray(random, line.get(at).copied().unwrap_or(b'0'));
     let touch = match at < line.len() {
@@ -94,12 +97,12 @@ mod tests {
     fn every_answer_comes() {
         let answered = answered();
         let comes = |front: &str| answered.iter().any(|(_, answer)| answer.starts_with(front));
-        let numbers = [3, 4, 5, 6, 7, 8, 9, 10, 11, 12, 13, 14, 15, 16, 17, 19, 20, 21];
+        let numbers = [3, 4, 5, 6, 7, 8, 9, 10, 11, 12, 13, 14, 15, 16, 17, 19, 20, 21, 25];
         assert!(numbers.iter().all(|number| comes(&format!("turned away by {number}: "))));
         let orders = ["start", "stop", "clear", "reset", "low", "high"].map(|order| format!("accepted: {order}"));
         assert!(orders.iter().all(|order| comes(order)));
         let fronts =
-            ["accepted\n", "travel ", "status ", "position ", "inputs ", "pulses ", "master 4", "T ", "P0B0\n"];
+            ["accepted\n", "travel ", "status ", "position ", "inputs ", "pulses ", "master 4", "T ", "D ", "P0B0\n"];
         assert!(fronts.iter().all(|front| comes(front)));
         assert!(FORMS.iter().all(|(_, form)| comes(&format!("? {form}\n"))));
     }

@@ -90,6 +90,15 @@ fn command_line<W: Write>(machine: &mut Machine, line: &[u8], output: &mut W) ->
     Ok(())
 }
 
+/// Host end and program: one line of the input, without its line feed, and what it prints.
+pub fn obey<W: Write>(machine: &mut Machine, line: &[u8], output: &mut W) -> io::Result<()> {
+    if line.first() == Some(&b'T') {
+        tick_line(machine, line, output)
+    } else {
+        command_line(machine, line, output)
+    }
+}
+
 /// Host end and program: power-on with switch 0; paper 02, 2/14: the watch is turned off first, its reply dropped.
 pub fn opened() -> Machine {
     let (mut machine, _) = Machine::power_on(0);
@@ -102,12 +111,6 @@ pub fn opened() -> Machine {
 /// Host end and program: all lines of the input, none read before the opening; the last may lack its line feed.
 pub fn run<R: BufRead, W: Write>(input: R, output: &mut W) -> io::Result<()> {
     let mut machine = opened();
-    each_line(input, |line| {
-        if line.first() == Some(&b'T') {
-            tick_line(&mut machine, line, output)
-        } else {
-            command_line(&mut machine, line, output)
-        }
-    })?;
+    each_line(input, |line| obey(&mut machine, line, output))?;
     output.flush()
 }

@@ -15,6 +15,8 @@ use asked::{asked, Asked};
 use std::io::{self, BufReader, Read, Write};
 
 pub use nearest::FORMS;
+pub(crate) use numbers::{decimal, hexadecimal};
+pub(crate) use sentences::turned_away;
 pub use sentences::SENTENCES;
 
 /// From words, rule 1: the least number of characters of a line that has no form for its length.
@@ -50,7 +52,7 @@ fn told(line: &[u8]) -> Option<Told> {
 pub fn answer(line: &[u8]) -> String {
     let mut text = match told(line) {
         Some(Ok(text)) => text,
-        Some(Err(number)) => sentences::turned_away(number),
+        Some(Err(number)) => turned_away(number),
         None => nearest::question(asked(line).body),
     };
     text.push('\n');

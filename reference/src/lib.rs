@@ -1,9 +1,9 @@
 //! Reference of the five-pump blending controller, written from paper 01 and, where that is silent, the manual; the
-//! journal from paper 02, 1/14, the watch of power-on from 2/14, and the settled inputs of W lines from 3/14; the
-//! program desk from the page on the line protocol.
+//! journal from paper 02, 1/14, the watch of power-on from 2/14, the settled inputs of W lines from 3/14, and the trial
+//! from 5/14; the programs desk and preview from the page on the line protocol.
 //!
 //! Each rule is a small function; its comment names the section of paper 01 that holds the rule, the journal, the
-//! request of paper 02, or "From words" of that page.
+//! request of paper 02, or "From words" or "A dose on screen first" of that page.
 
 #![forbid(unsafe_code)]
 
@@ -25,12 +25,15 @@ pub mod make_desk;
 pub mod make_host;
 pub mod make_journal;
 pub mod make_lists;
+pub mod make_preview;
 pub mod output;
+pub mod preview;
 pub mod ramp;
 pub mod reply;
 pub mod share;
 pub mod streams;
 mod text;
+pub mod trial;
 pub mod vectors;
 
 pub use command::{Command, CommandValue};
@@ -38,3 +41,4 @@ pub use figures::{figures_of, Figures, Setting};
 pub use host::{pick_master, read_block, watch_off_line, write_line, Block, Reading};
 pub use journal::Entry;
 pub use machine::{front, ByteAnswer, Machine, TickAnswer};
+pub use trial::{trial, Trial};

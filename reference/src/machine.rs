@@ -142,6 +142,11 @@ impl Machine {
         (Machine::fresh(switch), 0)
     }
 
+    /// Paper 02, 5/14: a copy of the controller, a half-received line aside.
+    pub(crate) fn between_lines(&self) -> Machine {
+        Machine { line: Vec::new(), ..self.clone() }
+    }
+
     /// Shares: the travels of the latest move, without sign.
     pub fn travels(&self) -> [u32; 5] {
         self.travels

@@ -4,13 +4,14 @@
 mod blocks;
 mod commands;
 mod figures;
-mod lines;
+pub(crate) mod lines;
 mod misspelt;
 mod near_blocks;
 mod odd_lines;
 mod page;
 mod program_words;
 mod sums;
+mod trials;
 mod wishes;
 
 use lines::Lines;
@@ -25,6 +26,7 @@ pub fn desk_text() -> Vec<u8> {
     wishes::identifications(&mut lines);
     wishes::wishes(&mut lines);
     program_words::program_words(&mut lines);
+    trials::trials(&mut lines);
     blocks::blocks(&mut lines);
     near_blocks::near_blocks(&mut lines);
     sums::sums(&mut lines);

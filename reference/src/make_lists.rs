@@ -1,7 +1,7 @@
 //! Stored lists: the text of the stored input.
 
 mod crooked;
-mod drawn;
+pub(crate) mod drawn;
 mod emergency;
 mod entries;
 mod extremes;

@@ -29,6 +29,7 @@ fn the_most_letters_in_common() {
     nearest("slope", &["sl", "slow"]);
     nearest("travel", &["t", "T 1000 000000", "tr", "to"]);
     nearest("ticks", &["ti", "tick", "TICKS 10", "silent ticks 5"]);
+    nearest("trial", &["tri", "Trial 0", "trials", "silent trial 0"]);
     nearest("position", &["p", "P0B0", "po", "pulses 0 0 0 0 0", "please stop"]);
     nearest("polarity", &["pol"]);
     nearest("dwell", &["d", "dw", "drop"]);

@@ -1,16 +1,20 @@
-//! A bench that keeps what is done as a list of calls.
+//! A bench that keeps what is done as a list of calls, with trials between them.
 
+use super::tried::{start_line, Trying};
 use super::{Bench, Stand};
 use crate::call::{Call, LONGEST_LENT};
 use crate::coverage::Coverage;
 use crate::random::Random;
-use reference::line::LINE_END;
+use crate::step::Step;
+use crate::trial::Asked;
+use reference::line::{with_line_end, LINE_END};
 use reference::machine::{INPUT_WORD_END, LEAST_REPLY_BUFFER};
-use reference::watch_off_line;
+use reference::{watch_off_line, Trial};
 
 pub struct Called {
     stand: Stand,
-    calls: Vec<Call>,
+    steps: Vec<Step>,
+    trying: Trying,
 }
 
 /// The length of a buffer that is too short, often by one byte.
@@ -25,26 +29,59 @@ fn long(random: &mut Random) -> usize {
 }
 
 impl Called {
-    pub fn new(switch: u8, ticks: u32) -> Called {
-        Called { stand: Stand::new(switch, ticks), calls: Vec::new() }
+    /// The last ones are the random numbers of its trials.
+    pub fn new(switch: u8, ticks: u32, trials: Random) -> Called {
+        Called { stand: Stand::new(switch, ticks), steps: Vec::new(), trying: Trying::new(trials) }
     }
 
-    /// The list, and what it meets.
-    pub fn finish(self) -> (Vec<Call>, Coverage) {
-        (self.calls, self.stand.seen())
+    /// The list, which ends with a trial, and what it meets.
+    pub fn finish(mut self) -> (Vec<Step>, Coverage) {
+        self.try_out();
+        (self.steps, self.stand.seen())
+    }
+
+    fn call(&mut self, call: Call) {
+        self.steps.push(Step::Call(call));
+    }
+
+    // Trials.
+
+    /// A trial; at times the very same is then done.
+    fn try_out(&mut self) {
+        let asked = self.trying.asked(&self.stand);
+        self.steps.push(Step::Trial(asked));
+        let told = self.stand.trial(asked);
+        if self.trying.is_done(&self.stand, asked, told) {
+            self.do_tried(asked, told);
+        }
+    }
+
+    /// The start line, and the ticks if it is accepted.
+    fn do_tried(&mut self, asked: Asked, told: Trial) {
+        self.stand.observed.done();
+        for byte in with_line_end(&start_line(asked.master)) {
+            self.give(byte, LEAST_REPLY_BUFFER);
+        }
+        if told.number == 0 {
+            self.ticks(asked.ticks, asked.word);
+        }
+        self.steps.push(Step::AsTried);
     }
 
     // Bytes.
 
     /// One byte with one lent buffer; its number.
     fn give(&mut self, byte: u8, lent: usize) -> u8 {
-        self.calls.push(Call::byte(byte, lent));
+        self.call(Call::byte(byte, lent));
         let mut buffer = [0; LONGEST_LENT];
         self.stand.byte(byte, &mut buffer[..lent])
     }
 
     /// A byte that meets a short buffer is mostly given again, and at times lost.
     fn receive(&mut self, random: &mut Random, byte: u8) -> u8 {
+        if self.trying.before_byte(&self.stand) {
+            self.try_out();
+        }
         if random.below(200) == 0 {
             let lent = short(random);
             self.give(byte, lent);
@@ -65,14 +102,14 @@ impl Called {
 
     /// Ticks in one call, which lends the least buffer.
     fn ticks(&mut self, count: u32, word: u32) {
-        self.calls.push(Call::ticks(count, word));
+        self.call(Call::ticks(count, word));
         self.stand.ticks(count, word, &mut [0; LEAST_REPLY_BUFFER]);
     }
 
     /// One tick with one lent buffer, if one is left.
     fn tick(&mut self, word: u32, lent: usize) {
         if self.ticks_left() > 0 {
-            self.calls.push(Call::tick(word, lent));
+            self.call(Call::tick(word, lent));
             let mut buffer = [0; LONGEST_LENT];
             self.stand.ticks(1, word, &mut buffer[..lent]);
         }
@@ -90,7 +127,7 @@ impl Called {
     }
 
     fn readings(&mut self) {
-        self.calls.push(Call::READINGS);
+        self.call(Call::READINGS);
         self.stand.readings();
     }
 
@@ -121,6 +158,9 @@ impl Bench for Called {
 
     /// At times the last tick has a buffer of its own.
     fn run(&mut self, random: &mut Random, count: u32, word: u32) {
+        if self.trying.before_ticks(&self.stand, word) {
+            self.try_out();
+        }
         let count = count.min(self.ticks_left());
         if count == 0 || random.chance(80) {
             self.ticks(count, word);

@@ -8,7 +8,7 @@ use reference::line::LINE_END;
 use reference::machine::{INPUT_WORD_END, LEAST_REPLY_BUFFER};
 
 pub struct Typed {
-    stand: Stand,
+    pub(super) stand: Stand,
     text: Vec<u8>,
 }
 
@@ -35,7 +35,7 @@ impl Typed {
         number
     }
 
-    fn keep(&mut self, line: &[u8]) {
+    pub(super) fn keep(&mut self, line: &[u8]) {
         self.text.extend_from_slice(line);
         self.text.push(b'\n');
     }

@@ -1,8 +1,9 @@
 //! What the proved code costs beside the reference and the plain C floor: ticks, lines and characters, both bench
-//! programs on whole inputs, and the dearest single calls.
+//! programs on whole inputs, the dearest single calls, and trials. Ends with 1 where a trial takes too long.
 
 use compare::program;
-use compare::speed::{floor, programs, single, steady};
+use compare::speed::{floor, programs, single, steady, trials};
+use std::process::exit;
 
 fn main() {
     program::make_folder();
@@ -16,4 +17,8 @@ fn main() {
     programs::print();
     println!();
     single::print(&rows);
+    println!();
+    if !trials::print() {
+        exit(1);
+    }
 }

@@ -12,7 +12,7 @@ use std::time::Instant;
 
 /// The proved bench program and the reference's.
 const PROGRAMS: [(&str, &str); 2] =
-    [("bench program", program::BENCH), ("reference's program", "reference/target/release/bench_reference")];
+    [("bench program", program::BENCH), ("reference's program", program::BENCH_REFERENCE)];
 
 const RANDOM_BYTES: usize = 20_000_000;
 const LINES: usize = 2_500_000;

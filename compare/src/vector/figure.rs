@@ -20,7 +20,7 @@ type Pair = (u64, i32);
 
 /// The same value with a longer m, as far as there is room.
 fn lengthened(random: &mut Random, (m, exponent): Pair) -> Pair {
-    let room = if m == 0 { 0 } else { (LARGEST_WHOLE / m).ilog2() };
+    let room = LARGEST_WHOLE.checked_div(m).map_or(0, u64::ilog2);
     let places = if random.chance(50) { room } else { random.below(room + 1) };
     (m << places, exponent - places as i32)
 }

@@ -31,6 +31,12 @@ fn with_zeros(random: &mut Random, line: Vec<u8>, length: usize) -> Vec<u8> {
     }
 }
 
+/// A line with zeros before its first number until it is about 100 characters long, or far longer.
+pub fn lengthened(random: &mut Random, line: Vec<u8>) -> Vec<u8> {
+    let length = length(random);
+    with_zeros(random, line, length)
+}
+
 /// A line of the same words again and again.
 fn repeated(random: &mut Random, length: usize) -> Vec<u8> {
     let words = form(random) + " ";

@@ -1,5 +1,5 @@
 -- The bytes of a stretch before its first 0D: each is a character that joins the line and ends none, with neither reply
--- nor number, and all together join it at once. Assumes nothing.
+-- nor number, and all together join it at once; and a controller without such characters. Assumes nothing.
 use Prim.Native.Nat.{ℕ}
 use mathlib.Core.Bool.{Bool, false, cond}
 use mathlib.Core.List.{List, [], _∷_, _++_, append-nil}
@@ -9,12 +9,14 @@ use lib.ListN.{length}
 use lib.Seq.{append-snoc}
 use Rattle.laws.proofs.Pick.{by-bool}
 use Rattle.receiver.specs.declared.Gathered as line
+use Rattle.receiver.specs.declared.Receiver.{Receiver}
 use Rattle.receiver.specs.Receiver as receiver
 use Rattle.receiver.specs.declared.Heard.the-variants.{Character}
 use Rattle.receiver.specs.Receiver.{Receipt, heardLine, before, beforeEnd}
 use Rattle.machine.specs.State.{Machine, withLine}
 use Rattle.machine.specs.Steps.{ByteAnswer, byteStep, answered, gathered, outcomeOf, outcome}
-use Rattle.machine.specs.Calls.{Call, byte, Origin, power, given, after, run, state, buffer, bytes}
+use Rattle.machine.specs.Calls.{Call, byte, Origin, power, given, after, run, state, from, buffer, bytes}
+use Rattle.machine.proofs.AsideLaws.{unlined, unlined-is}
 use Rattle.controller.specs.declared.state.Controller.{Controller}
 use Rattle.controller.specs.declared.state.Gathered.{Gathered}
 use Rattle.controller.specs.Held.{held, heldGathered}
@@ -59,7 +61,7 @@ run-on (power s) x h = refl
 run-on (given m) x h = refl
 
 -- All of them, in any list of calls.
-joined : (o : Origin) (bs : List ℕ) (h : List Call)
+pub joined : (o : Origin) (bs : List ℕ) (h : List Call)
     → run o (bytes (beforeEnd bs) h) ≡ withLine (run o h) (run o h .line ++ beforeEnd bs)
 unfolding before
 joined o [] h = λ i. withLine (run o h) (sym (append-nil (run o h .line)) i)
@@ -82,12 +84,17 @@ quiet (b ∷ bs) m =
       (ap (λ (a : ByteAnswer). a .number) (character m b e), quiet bs (byteStep m b buffer .machine)),
     ))
 
+-- From a machine on a stretch leaves what it leaves in the list.
+pub stretch-on : (s : ℕ) (h : List Call) (bs : List ℕ)
+    → state s (bytes (beforeEnd bs) h) ≡ from (state s h) (bytes (beforeEnd bs) [])
+unfolding run
+stretch-on s h bs = joined (power s) bs h ∙ sym (joined (given (state s h)) bs [])
+
 -- In the list of calls a stretch is its bytes.
 pub after-stretch : (c : Controller) (s : ℕ) (h : List Call) → held (state s h) ≡ c → (bs : List ℕ) (r : Gathered)
     → Made c (λ m. r ≡ heldGathered m bs) → held (state s (bytes (beforeEnd bs) h)) ≡ r .controller
-unfolding run
 after-stretch c s h e bs r p =
-    ap held (joined (power s) bs h ∙ sym (joined (given (state s h)) bs []))
+    ap held (stretch-on s h bs)
     ∙ sym (ap (λ (x : Gathered). x .controller) (p s h e))
 
 -- ---- What `gather` answers
@@ -122,3 +129,17 @@ module _ (self : Controller) (bs : List ℕ) (g : line.Gathered) (c : Controller
       },
     ),
   )
+
+-- ---- What `without_line` answers
+
+module _ (self : Controller) (line : Receiver) (c : Controller) (q : line ≡ receiver.holding [])
+    (p : c ≡ withLineOf self line) where
+  pub bare : Made self (λ m. c ≡ held (withLine m []))
+  bare s h e = p ∙ (λ i. withLineOf (sym e i) (q i))
+
+  pub bare-reached : Reachable self → Reachable c
+  bare-reached r = record {
+    switch = r .switch;
+    history = unlined (r .history);
+    made = ap held (unlined-is (r .switch) (r .history)) ∙ sym (bare (r .switch) (r .history) (r .made));
+  }

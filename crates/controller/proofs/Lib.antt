@@ -21,3 +21,4 @@ pub mod AnswerLaws
 pub mod JournalAnswerLaws
 pub mod SettleAnswerLaws
 pub mod FrontLaws
+mod PositionLaws

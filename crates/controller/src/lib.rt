@@ -24,10 +24,12 @@ pub use crate::state::Controller;
 pub use crate::state::Gathered;
 pub use crate::state::PowerOn;
 pub use crate::state::TickAnswer;
+pub use crate::turned::LAST_WORD;
 use block::REPLY_ROOM;
 use receiver::Heard;
 use receiver::Receiver;
 
+mod aside;
 mod dwell;
 mod entry;
 mod line_end;

@@ -36,6 +36,21 @@ impl Controller {
         positions
     }
 
+    // The same as signed numbers.
+    pub fn signed_positions(self) -> [i64; 5]
+        requires { ⌜ Reachable self ⌝ }
+        ensures { λ r. ⌜ Made self (λ m. r ≡ each (m .position)) ⌝ }
+    {
+        let held = self.positions();
+        [
+            held[0].signed(),
+            held[1].signed(),
+            held[2].signed(),
+            held[3].signed(),
+            held[4].signed(),
+        ]
+    }
+
     // The status word.
     pub fn status(self) -> u8
         requires { ⌜ Reachable self ⌝ }

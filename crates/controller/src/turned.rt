@@ -8,7 +8,7 @@ use block::REPLY_ROOM;
 use journal::NO_ENTRY;
 
 // The greatest input word: 24 bits.
-const LAST_WORD: u32 = 16777215;
+pub const LAST_WORD: u32 = 16777215;
 
 // The number that turns a tick away, by the length of its buffer and its word, or 0.
 pub(crate) fn tick_number(room: usize, word: u32) -> u8

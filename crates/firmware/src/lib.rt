@@ -85,14 +85,7 @@ pub extern "C" fn temixohuel_positions(c: Controller) -> Positions
     ensures { λ r. ⌜ ((ps : List Position) → PositionsOf c ps → r .axes ≡ map positionOf ps) ⌝ }
     ensures { λ r. ⌜ Made c (λ m. r .axes ≡ each (m .position)) ⌝ }
 {
-    let held = c.positions();
-    let axes = [
-        held[0].signed(),
-        held[1].signed(),
-        held[2].signed(),
-        held[3].signed(),
-        held[4].signed(),
-    ];
+    let axes = c.signed_positions();
     Positions { axes }
 }
 

@@ -1,6 +1,7 @@
 -- Of a tick's lent buffer the length alone plays a part; and a tick that answers a block leaves none to come, so that
--- of ticks with no line between them one answers a block at most. Assumes nothing.
-use Prim.Native.Nat.{ℕ, _-_, _≤_}
+-- of ticks with no line between them one answers a block at most. Ticks from a machine on leave what they leave in its
+-- list. Assumes nothing.
+use Prim.Native.Nat.{ℕ, zero, suc, _-_, _≤_}
 use mathlib.Core.Bool.{Bool, true, false}
 use mathlib.Core.List.{List, []}
 use mathlib.Core.Path.{_≡_, refl, ap, _∙_}
@@ -12,7 +13,7 @@ use Rattle.laws.proofs.Pick.{by-bool}
 use Rattle.reply.proofs.Replies.{inputs-most}
 use Rattle.machine.specs.State.{Settle, Machine}
 use Rattle.machine.specs.Steps.{TickAnswer, isShort, tooLarge, tickBy, tickStep}
-use Rattle.machine.specs.Calls.{buffer}
+use Rattle.machine.specs.Calls.{Call, run, state, from, buffer, ticks}
 use Rattle.machine.proofs.SettleStageLaws.{ran-kept}
 
 module _ (m : Machine) (w : ℕ) (d : List ℕ) where
@@ -54,3 +55,10 @@ module _ (m : Machine) (w : ℕ) (d : List ℕ) where
       when true b f g = f refl
       when false true f g = f refl
       when false false f g = due (eqb (m .settle .left) 1) refl f g
+
+-- ---- So many ticks
+
+pub ticks-on : (s w : ℕ) (h : List Call) (n : ℕ) → state s (ticks n w h) ≡ from (state s h) (ticks n w [])
+unfolding run
+ticks-on s w h zero = refl
+ticks-on s w h (suc n) = ap (λ (m : Machine). tickStep m w buffer .machine) (ticks-on s w h n)

@@ -1,5 +1,6 @@
 pub mod BitLaws
 pub mod UnalteredLaws
+pub mod AsideLaws
 pub mod Outcomes
 pub mod ShareLaws
 pub mod Runs

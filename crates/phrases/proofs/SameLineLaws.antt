@@ -1,10 +1,14 @@
--- The line printed for a command, and 0D behind it, is its line: no character of a line is 0D. Assumes nothing.
-use Prim.Native.Nat.{ℕ}
-use mathlib.Core.Bool.{true}
+-- The line printed for a command, and 0D behind it, is its line: no character of a line is 0D, and no line that means a
+-- command begins with a word that has an answer of its own. Assumes nothing.
+use Prim.Native.Nat.{ℕ, _≤_, _<_}
+use native.Mathlib.Omega.{arith}
+use mathlib.Core.Bool.{Bool, true, false, cond, false≢true}
 use mathlib.Core.List.{List, [], _∷_, _++_}
 use mathlib.Core.Path.{_≡_, refl, sym, ap, _∙_}
 use borrow.Author.Tests.{ne-eqb}
 use lib.Dec.{eqb}
+use lib.ListN.{drop}
+use Rattle.laws.proofs.Pick.{by-lt}
 use Rattle.digits.specs.Digits.{endByte}
 use Rattle.line.specs.declared.command.Command.{Command}
 use Rattle.host.specs.declared.Request.{Request}
@@ -15,8 +19,9 @@ use Rattle.text.specs.Parts.{part}
 use Rattle.text.proofs.PartLaws.{behind-here}
 use Rattle.sentences.specs.Places as K
 use Rattle.sentences.specs.Sentences.{placeOf}
+use Rattle.phrases.specs.declared.meaning.Meant.{Meant}
 use Rattle.phrases.specs.declared.meaning.Meant.the-variants as M
-use Rattle.phrases.specs.Meanings.{word, meantBy}
+use Rattle.phrases.specs.Meanings.{word, meantAt, meantBy}
 use Rattle.phrases.specs.Phrases.{
   isSilent,
   unsilenced,
@@ -25,9 +30,12 @@ use Rattle.phrases.specs.Phrases.{
   lineText,
   requestText,
   commandText,
+  textAt,
   wordsText,
 }
 use Rattle.phrases.specs.Promises.{requestIn, SameLine}
+use Rattle.phrases.proofs.FirstWordLaws.{named-first, silent-first, silent-place}
+use Rattle.phrases.proofs.NoCommandLaws.{meant-none}
 
 -- ---- What stands before the first 0D
 
@@ -48,15 +56,44 @@ whole-line r e =
     rw e (ap (λ (x : List ℕ). part endByte 0 x ++ (endByte ∷ [])) (s .ended)
     ∙ (ap (λ (x : List ℕ). x ++ (endByte ∷ [])) (part-end (s .chars) (s .no-end)) ∙ sym (s .ended)))
 
--- ---- A line of words
+-- ---- A line that means a command is taken as one
 
--- It is taken as a command, and the command's request is the one in the line.
-commanded : (l : List ℕ) → (placeOf (word 0 l) ≡ K.opening → ⊥) → (placeOf (word 0 l) ≡ K.master → ⊥)
-    → (placeOf (word 0 l) ≡ K.ticks → ⊥) → wordsText l ≡ commandText l
-unfolding wordsText
-commanded l a b d =
-    rw (ne-eqb (placeOf (word 0 l)) 18 a, ne-eqb (placeOf (word 0 l)) 19 b, ne-eqb (placeOf (word 0 l)) 20 d)
+abbrev isCommand : Meant → Bool
+isCommand M.Nothing = false
+isCommand (M.Command c) = true
+isCommand (M.Refused n) = false
 
+module _ (l : List ℕ) (c : Command) (e : meantBy (bodyOf l) ≡ M.Command c) where
+  -- Its first word, which is not `silent`, stands before `opening`.
+  early : isSilent l ≡ false → K.opening ≤ placeOf (word 0 l) → ⊥
+  unfolding meantBy
+  early s h =
+      let p : word 0 (bodyOf l) ≡ word 0 l =
+      named-first (unsilenced l) ∙ ap (λ (t : Bool). word 0 (cond t (drop 7 l) l)) s in
+      false≢true
+      (ap isCommand (sym (meant-none (placeOf (word 0 l)) h (bodyOf l))
+      ∙ (ap (λ (w : List ℕ). meantAt (placeOf w) (bodyOf l)) (sym p) ∙ e)))
+
+  placed : (k : ℕ) → k < K.opening → textAt k l ≡ commandText l
+  placed k h =
+      rw (
+        ne-eqb k 18 (λ (q : k ≡ 18). omega arith),
+        ne-eqb k 19 (λ (q : k ≡ 19). omega arith),
+        ne-eqb k 20 (λ (q : k ≡ 20). omega arith),
+        ne-eqb k 21 (λ (q : k ≡ 21). omega arith),
+      )
+
+  taken : (t : Bool) → isSilent l ≡ t → textAt (placeOf (word 0 l)) l ≡ commandText l
+  taken true s = ap (λ (k : ℕ). textAt k l) (ap placeOf (silent-first l s) ∙ silent-place)
+  taken false s =
+      by-lt {A = ℕ} (λ (x : ℕ). textAt (placeOf (word 0 l)) l ≡ commandText l) (placeOf (word 0 l)) 18 0 0
+      (placed (placeOf (word 0 l))) (λ h. absurd (early s h))
+
+  commanded : wordsText l ≡ commandText l
+  unfolding wordsText
+  commanded = taken (isSilent l) refl
+
+-- The command's request is the one in the line.
 meant-line : (l : List ℕ) (c : Command) → meantBy (bodyOf l) ≡ M.Command c → commandText l ≡ lineText (requestIn l c)
 unfolding commandText
 meant-line l c e = ap (requestText (isSilent l) (namedOf (unsilenced l) .ident) l) e
@@ -64,6 +101,6 @@ meant-line l c e = ap (requestText (isSilent l) (namedOf (unsilenced l) .ident) 
 pub same-line : SameLine
 same-line = record {
   line = whole-line;
-  said = λ l c e h a b d. ap (λ (x : List ℕ). x ++ (endByte ∷ [])) (commanded l a b d ∙ meant-line l c e)
+  said = λ l c e h. ap (λ (x : List ℕ). x ++ (endByte ∷ [])) (commanded l c e ∙ meant-line l c e)
       ∙ whole-line (requestIn l c) h;
 }

@@ -129,6 +129,33 @@ ticksText l =
     (cond (eqb (words l) 3) (tickLineText l (numberAt l 1) (spelledOf 16 (word 2 l)))
     (nearestText l))
 
+-- ---- `trial`, a master, a number of ticks or none, an input word or none: the program preview's D line
+
+-- The first that applies: 3 for an input word of more than 24 bits, 25 for more than 1,000,000 ticks, 10 for a master
+-- over 4 (paper 02, 5/14); else the line.
+abbrev pub trialLineText : ℕ → ℕ → ℕ → List ℕ
+trialLineText k n w =
+    cond (ltb 16777215 w) (turnedText 3)
+    (cond (ltb 1000000 n) (turnedText 25)
+    (cond (ltb 4 k) (turnedText 10)
+    (chars "D " ++ (decimalOf k ++ (chars " " ++ (decimalOf n ++ (chars " " ++ sixOf w)))))))
+
+-- Master, ticks and input word, where each is a number.
+abbrev pub triedText : List ℕ → Spelled → Spelled → Spelled → List ℕ
+triedText l S.Not n w = nearestText l
+triedText l (S.Number k) S.Not w = nearestText l
+triedText l (S.Number k) (S.Number n) S.Not = nearestText l
+triedText l (S.Number k) (S.Number n) (S.Number w) = trialLineText k n w
+
+-- Without a number of ticks there are 1,000,000, and without an input word it is 0.
+abbrev pub trialText : List ℕ → List ℕ
+trialText l =
+    cond (eqb (words l) 2) (triedText l (spelledOf 10 (word 1 l)) (S.Number 1000000) (S.Number 0))
+    (cond (eqb (words l) 3) (triedText l (spelledOf 10 (word 1 l)) (spelledOf 10 (word 2 l)) (S.Number 0))
+    (cond (eqb (words l) 4)
+    (triedText l (spelledOf 10 (word 1 l)) (spelledOf 10 (word 2 l)) (spelledOf 16 (word 3 l)))
+    (nearestText l)))
+
 -- ---- A line of words, by the place of its first
 
 abbrev pub textAt : ℕ → List ℕ → List ℕ
@@ -136,7 +163,8 @@ textAt k l =
     cond (eqb k K.opening) (openingText l)
     (cond (eqb k K.master) (masterText l)
     (cond (eqb k K.ticks) (ticksText l)
-    (commandText l)))
+    (cond (eqb k K.trial) (trialText l)
+    (commandText l))))
 
 unfoldable pub wordsText : List ℕ → List ℕ
 wordsText l = textAt (placeOf (word 0 l)) l

@@ -1,5 +1,5 @@
--- What `words` promises beside what it writes: the line printed for a command is that command's line, and a printed T
--- line is to the bench program the ticks that the words ask for.
+-- What `words` promises beside what it writes: the line printed for a command is that command's line, a printed T line
+-- is to the bench program the ticks that the words ask for, and a printed D line to the program preview the trial.
 use Prim.Native.Nat.{ℕ, _≤_, _<_}
 use mathlib.Core.Bool.{true, false}
 use mathlib.Core.List.{List, [], _∷_, _++_}
@@ -10,6 +10,8 @@ use Rattle.line.specs.declared.command.Command.{Command}
 use Rattle.host.specs.Writer.{hasLine, lineOf}
 use Rattle.host.specs.declared.Request.{Request}
 use Rattle.session.specs.Asked.{ticksBy, askedOf}
+use Rattle.screen.specs.Asked as screen
+use Rattle.screen.specs.declared.asked.Asked.the-variants.{Trial}
 use Rattle.numerals.specs.Numerals.{spelledOf}
 use Rattle.numerals.specs.declared.Spelled.the-variants.{Number}
 use Rattle.sentences.specs.Places as K
@@ -24,6 +26,7 @@ use Rattle.phrases.specs.Phrases.{
   lineText,
   numberAt,
   tickText,
+  trialLineText,
   wordsText,
 }
 
@@ -36,10 +39,9 @@ requestIn l c = record { silent = isSilent l; command = c; ident = namedOf (unsi
 pub record SameLine : Type 0 where
   -- every request that has a line
   pub line : (r : Request) → hasLine r ≡ true → lineText r ++ (endByte ∷ []) ≡ lineOf r
-  -- every line of words that means a command, its first word none of those with an answer of their own
+  -- every line of words that means a command
   pub said : (l : List ℕ) (c : Command) → meantBy (bodyOf l) ≡ M.Command c → hasLine (requestIn l c) ≡ true
-      → (placeOf (word 0 l) ≡ K.opening → ⊥) → (placeOf (word 0 l) ≡ K.master → ⊥)
-      → (placeOf (word 0 l) ≡ K.ticks → ⊥) → wordsText l ++ (endByte ∷ []) ≡ lineOf (requestIn l c)
+      → wordsText l ++ (endByte ∷ []) ≡ lineOf (requestIn l c)
 
 -- The T line that is printed for n ticks with the input word w, read by the bench program's own form (crate session,
 -- `askedOf`), asks for n ticks with w: `ticksBy n (Value w false)` is `Ticks n w`, a case that session alone can name.
@@ -55,3 +57,21 @@ pub record TickLine : Type 0 where
   pub alone : (l : List ℕ) → placeOf (word 0 l) ≡ K.ticks → words l ≡ 2
       → 1 ≤ numberAt l 1 → numberAt l 1 ≤ 1000000
       → askedOf (wordsText l) ≡ ticksBy (numberAt l 1) (Value 0 false)
+
+-- The D line that is printed for a trial with master k and n ticks with the input word w, read by the program preview's
+-- own form (crate screen, `askedOf`), asks for that very trial.
+pub record TrialLine : Type 0 where
+  -- any master, number of ticks and input word that a trial takes
+  pub asked : (k n w : ℕ) → k ≤ 4 → n ≤ 1000000 → w < 16777216
+      → screen.askedOf (trialLineText k n w) ≡ Trial k n w
+  -- every line of `trial` and three such numbers
+  pub said : (l : List ℕ) (k n w : ℕ) → placeOf (word 0 l) ≡ K.trial → words l ≡ 4
+      → spelledOf 10 (word 1 l) ≡ Number k → spelledOf 10 (word 2 l) ≡ Number n → spelledOf 16 (word 3 l) ≡ Number w
+      → k ≤ 4 → n ≤ 1000000 → w < 16777216 → screen.askedOf (wordsText l) ≡ Trial k n w
+  -- without an input word: it is 0
+  pub wordless : (l : List ℕ) (k n : ℕ) → placeOf (word 0 l) ≡ K.trial → words l ≡ 3
+      → spelledOf 10 (word 1 l) ≡ Number k → spelledOf 10 (word 2 l) ≡ Number n
+      → k ≤ 4 → n ≤ 1000000 → screen.askedOf (wordsText l) ≡ Trial k n 0
+  -- with a master alone: 1,000,000 ticks
+  pub alone : (l : List ℕ) (k : ℕ) → placeOf (word 0 l) ≡ K.trial → words l ≡ 2
+      → spelledOf 10 (word 1 l) ≡ Number k → k ≤ 4 → screen.askedOf (wordsText l) ≡ Trial k 1000000 0

@@ -1,5 +1,6 @@
 // Words to lines (docs/PROTOCOL.md, "From words"): what the desk prints to a line of words. A command becomes the line
-// that the writer gives; `opening`, `master` and `ticks` have their own answers; anything else the nearest form.
+// that the writer gives; `opening`, `master`, `ticks` and `trial` have their own answers; anything else has the nearest
+// form.
 // Every public function is total: it has no premise and states its result for every input. Assumes nothing.
 ghost use mathlib.Core.Path.{_≡_};
 ghost use Rattle.text.specs.Text.{writes};
@@ -15,12 +16,13 @@ ghost use Rattle.phrases.specs.Phrases.{
   wordsText,
   overlongText,
 };
-ghost use Rattle.phrases.specs.Promises.{SameLine, TickLine};
+ghost use Rattle.phrases.specs.Promises.{SameLine, TickLine, TrialLine};
 use crate::meaning::Meant;
 use digits::END;
 use digits::Ident;
 use host::Request;
 use host::Written;
+pub use screen::asked::OVERLONG;
 use sentences::places;
 use text::SPACE;
 use text::Text;
@@ -29,9 +31,7 @@ use text::parts;
 mod meaning;
 mod programs;
 mod single;
-
-// A line of so many characters is over-long, and so many of it are looked at.
-pub const OVERLONG: usize = 100;
+mod trials;
 
 // The identification of a form, and the length of what stands before it.
 struct Named {
@@ -139,12 +139,13 @@ fn command(text: Text, line: &[u8]) -> Text
     requested(text, silent, ident, line, meant)
 }
 
-// A line of words. That what is printed for a command is its very line, and that a printed T line asks for these very
-// ticks, stand here as promises.
+// A line of words. That what is printed for a command is its very line, that a printed T line asks for these very
+// ticks and a printed D line for this very trial, stand here as promises.
 pub fn words(text: Text, line: &[u8]) -> Text
     ensures { λ r. ⌜ r ≡ writes text (wordsText (now (line .entry))) ⌝ }
     ensures { λ _. ⌜ SameLine ⌝ }
     ensures { λ _. ⌜ TickLine ⌝ }
+    ensures { λ _. ⌜ TrialLine ⌝ }
 {
     let k = sentences::place_of(parts::part(line, SPACE, 0));
     if k == places::OPENING {
@@ -156,10 +157,13 @@ pub fn words(text: Text, line: &[u8]) -> Text
     if k == places::TICKS {
         return programs::ticks(text, line);
     }
+    if k == places::TRIAL {
+        return trials::trial(text, line);
+    }
     command(text, line)
 }
 
-// A line that is too long.
+// A line that is too long: so many of its characters are looked at as it had to have.
 pub fn overlong(text: Text, line: &[u8]) -> Text
     ensures { λ r. ⌜ r ≡ writes text (overlongText (now (line .entry))) ⌝ }
 {

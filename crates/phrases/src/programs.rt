@@ -16,6 +16,7 @@ ghost use Rattle.phrases.specs.Phrases.{
   ticksText,
 };
 use crate::nearest;
+use controller::LAST_WORD;
 use digits::END;
 use line::command;
 use numerals::Spelled;
@@ -23,9 +24,6 @@ use session::MOST_TICKS;
 use text::SPACE;
 use text::Text;
 use text::parts;
-
-// The largest input word.
-const TOP_WORD: u32 = digits::SIX_DIGITS - 1;
 
 // The host's first line.
 pub(crate) fn opening(text: Text, line: &[u8]) -> Text
@@ -125,7 +123,7 @@ pub(crate) fn master(text: Text, line: &[u8]) -> Text
 fn tick_line(text: Text, n: u32, word: u32) -> Text
     ensures { λ r. ⌜ r ≡ writes text (tickText n word) ⌝ }
 {
-    if TOP_WORD < word {
+    if LAST_WORD < word {
         return sentences::turned_away(text, 3);
     }
     let letter = text.characters(b"T ");

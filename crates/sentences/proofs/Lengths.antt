@@ -29,7 +29,7 @@ states-within : within 10 40 40 states ≡ true
 unfolding within states
 states-within = refl
 
-forms-within : within 10 168 168 forms ≡ true
+forms-within : within 10 198 198 forms ≡ true
 unfolding within forms
 forms-within = refl
 
@@ -51,7 +51,7 @@ turned-length n h =
     omega (arith, l)
 
 -- A question mark and the nearest form.
-pub question-length : (w : List ℕ) → length (questionText w) ≤ 170
+pub question-length : (w : List ℕ) → length (questionText w) ≤ 200
 question-length w =
-    joined-length (chars "? ") (part 10 (closest 21 w) forms) 2 168 (omega arith)
-    (part-within 10 168 168 (closest 21 w) forms (omega arith) forms-within)
+    joined-length (chars "? ") (part 10 (closest 22 w) forms) 2 198 (omega arith)
+    (part-within 10 198 198 (closest 22 w) forms (omega arith) forms-within)

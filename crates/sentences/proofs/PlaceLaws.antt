@@ -29,4 +29,5 @@ places = record {
   opening-is = refl;
   master-is = refl;
   ticks-is = refl;
+  trial-is = refl;
 }

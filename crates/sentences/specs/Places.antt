@@ -60,7 +60,7 @@ clear = 16
 abbrev pub reset : ℕ
 reset = 17
 
--- No commands: the host's first line, the master picker, the bench program's ticks.
+-- No commands: the host's first line, the master picker, the bench program's ticks, a trial of the program preview.
 abbrev pub opening : ℕ
 opening = 18
 
@@ -69,3 +69,6 @@ master = 19
 
 abbrev pub ticks : ℕ
 ticks = 20
+
+abbrev pub trial : ℕ
+trial = 21

@@ -28,6 +28,7 @@ use Rattle.sentences.specs.Places.{
   opening,
   master,
   ticks,
+  trial,
 }
 use Rattle.sentences.specs.Sentences.{sentences, states, keywords, forms, wordCount, shared, closest, placeOf}
 
@@ -54,6 +55,7 @@ pub record Places : Type 0 where
   pub opening-is : placeOf (chars "opening") ≡ opening
   pub master-is : placeOf (chars "master") ≡ master
   pub ticks-is : placeOf (chars "ticks") ≡ ticks
+  pub trial-is : placeOf (chars "trial") ≡ trial
 
 -- Whether each of the first n rows of a table has something in it.
 unfoldable pub filled : ℕ → List ℕ → Bool
@@ -70,19 +72,19 @@ unfoldable pub allWords : ℕ → List ℕ
 allWords zero = part 10 0 keywords
 allWords (suc n) = allWords n ++ (chars ", " ++ part 10 (suc n) keywords)
 
--- The tables fit each other. A table has one part more than rows, for a line feed stands behind each row: 21 words, 22
--- forms, 25 sentences (0 to 24), 8 states, none of them empty; each form begins with its word, the last is all words.
+-- The tables fit each other. A table has one part more than rows, for a line feed stands behind each row: 22 words, 23
+-- forms, 26 sentences (0 to 25), 8 states, none of them empty; each form begins with its word, the last is all words.
 pub record Tables : Type 0 where
-  pub keyword-parts : parts 10 keywords ≡ 22
-  pub form-parts : parts 10 forms ≡ 23
-  pub sentence-parts : parts 10 sentences ≡ 26
+  pub keyword-parts : parts 10 keywords ≡ 23
+  pub form-parts : parts 10 forms ≡ 24
+  pub sentence-parts : parts 10 sentences ≡ 27
   pub state-parts : parts 10 states ≡ 9
-  pub keywords-filled : filled 21 keywords ≡ true
-  pub forms-filled : filled 22 forms ≡ true
-  pub sentences-filled : filled 25 sentences ≡ true
+  pub keywords-filled : filled 22 keywords ≡ true
+  pub forms-filled : filled 23 forms ≡ true
+  pub sentences-filled : filled 26 sentences ≡ true
   pub states-filled : filled 8 states ≡ true
-  pub forms-begin : formsBegin 21 ≡ true
-  pub forms-end : part 10 21 forms ≡ allWords 20
+  pub forms-begin : formsBegin 22 ≡ true
+  pub forms-end : part 10 22 forms ≡ allWords 21
 
 -- The place whose form answers a word w: no place has more first letters in common with w, each one before it has
 -- fewer, and it has at least one; that of no word only where no place has any.

@@ -36,9 +36,11 @@ pub const INPUTS: usize = 15;
 pub const CLEAR: usize = 16;
 
 pub const RESET: usize = 17;
-// No commands: the host's first line, the master picker, the bench program's ticks.
+// No commands: the host's first line, the master picker, the bench program's ticks, a trial of the program preview.
 pub const OPENING: usize = 18;
 
 pub const MASTER: usize = 19;
 
 pub const TICKS: usize = 20;
+
+pub const TRIAL: usize = 21;

@@ -1,7 +1,7 @@
 // What the desk says in fixed words, row by row (docs/PROTOCOL.md, "From words"). A row ends with a line feed.
 
 // The sentence of each number, from 0 on.
-pub(crate) const SENTENCES: [u8; 788] = *b"accepted\n\
+pub(crate) const SENTENCES: [u8; 814] = *b"accepted\n\
     the switch is over 15 or equal to 12\n\
     a reply buffer is under 120 bytes\n\
     an input word is over FFFFFF\n\
@@ -25,7 +25,8 @@ pub(crate) const SENTENCES: [u8; 788] = *b"accepted\n\
     a figure is not exact or out of range\n\
     no space for the whole entry\n\
     the journal ends within an entry\n\
-    a number of the entry is out of its range or longer than it need be\n";
+    a number of the entry is out of its range or longer than it need be\n\
+    more than 1,000,000 ticks\n";
 
 // What a status says: of bits 0 and 1 together, then of each bit from 2 on.
 pub(crate) const STATES: [u8; 126] = *b"at rest\n\
@@ -38,7 +39,7 @@ pub(crate) const STATES: [u8; 126] = *b"at rest\n\
     stopped by the sensor\n";
 
 // The words that begin a form.
-pub(crate) const KEYWORDS: [u8; 144] = *b"start\n\
+pub(crate) const KEYWORDS: [u8; 150] = *b"start\n\
     travel\n\
     position\n\
     dwell\n\
@@ -58,10 +59,11 @@ pub(crate) const KEYWORDS: [u8; 144] = *b"start\n\
     reset\n\
     opening\n\
     master\n\
-    ticks\n";
+    ticks\n\
+    trial\n";
 
 // The form of each, and behind them that of no word: all words.
-pub(crate) const FORMS: [u8; 418] = *b"start 0, start 0 after dwell\n\
+pub(crate) const FORMS: [u8; 468] = *b"start 0, start 0 after dwell\n\
     travel 2\n\
     position 1\n\
     dwell 20\n\
@@ -82,5 +84,6 @@ pub(crate) const FORMS: [u8; 418] = *b"start 0, start 0 after dwell\n\
     opening\n\
     master 5 2 3 0 0\n\
     ticks 1000, ticks 1000 000010\n\
+    trial 0, trial 0 6000, trial 0 6000 002000\n\
     start, travel, position, dwell, watch, polarity, low, high, outputs, speed, slope, distance, stop, \
-    status, everything, inputs, clear, reset, opening, master, ticks\n";
+    status, everything, inputs, clear, reset, opening, master, ticks, trial\n";

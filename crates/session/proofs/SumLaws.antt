@@ -22,6 +22,7 @@ use Rattle.machine.specs.Steps.{tickStep}
 use Rattle.machine.specs.Starts.{outside}
 use Rattle.machine.specs.Calls.{Call, tick, run, state, buffer, ticks}
 use Rattle.machine.specs.List.{signed, position, latest}
+use Rattle.machine.proofs.LentLaws.{ticks-on}
 use Rattle.machine.proofs.DemandLaws.{demand-3}
 use Rattle.controller.specs.declared.state.Controller.{Controller}
 use Rattle.controller.specs.Held.{held}
@@ -111,9 +112,7 @@ room-of z p h k = record {
 
 module _ (s w : ℕ) (h : List Call) where
   pub past-state : (n : ℕ) → state s (ticks n w h) ≡ afterTicks n w (state s h)
-  unfolding run
-  past-state zero = refl
-  past-state (suc n) = ap (λ (m : Machine). tickStep m w buffer .machine) (past-state n)
+  past-state n = ticks-on s w h n
 
   past-sum : (n k : ℕ) → signed s (ticks n w h) k ≡ signed s h k +ℤ sumOf n w (state s h) k
   unfolding signed sumOf

@@ -1,4 +1,8 @@
 // A session as it is held, and what its entries answer (paper 01, "Host end and program"). Assumes nothing.
+ghost use mathlib.Core.Path.{_≡_};
+ghost use Rattle.controller.specs.Held.{held};
+ghost use Rattle.controller.specs.Reach.{Reachable};
+ghost use Rattle.session.specs.Session.{Running, Runs};
 use crate::kept::Kept;
 use controller::Controller;
 
@@ -17,6 +21,17 @@ pub struct Session {
     pub(crate) controller: Controller,
     pub(crate) kept: Kept,
     pub(crate) place: Place,
+}
+
+impl Session {
+    // The controller as it stands, for what is tried on a copy of it (paper 02, 5/14); a half-received line is in it.
+    pub fn controller(self) -> Controller
+        requires { ⌜ Running self ⌝ }
+        ensures { λ r. ⌜ Runs self (λ x. r ≡ held (x .machine)) ⌝ }
+        ensures { λ r. ⌜ Reachable r ⌝ }
+    {
+        self.controller
+    }
 }
 
 // The next session; the length of what is to be printed, which stands at the front of the lent buffer; and a number: 2

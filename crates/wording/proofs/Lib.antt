@@ -3,6 +3,7 @@ pub mod OneLineLaws
 pub mod PageLaws
 pub mod ReplyLineLaws
 pub mod ToldLaws
+pub mod TrialRowLaws
 pub mod WholeLaws
 pub mod WordLineLaws
 pub mod WordingLaws

@@ -34,6 +34,7 @@ use Rattle.wording.specs.Page.{
   FormRows,
   Page,
 }
+use Rattle.wording.proofs.TrialRowLaws.{trials}
 
 -- What is printed for a figure whose units crate figures has read: what it reads is no matter of computing.
 abbrev asked : String → ℕ → Answer ℕ → List ℕ
@@ -166,6 +167,7 @@ forms-are = record {
   opening = refl;
   master = refl;
   ticks = refl;
+  trial = refl;
 }
 
 pub page : Page
@@ -173,6 +175,7 @@ page = record {
   commands = commands;
   marked = marked;
   programs = programs;
+  trials = trials;
   replies = replies;
   nearest = nearest;
   axes = axes;

@@ -50,6 +50,9 @@ use Rattle.phrases.specs.Phrases.{
   tickText,
   tickLineText,
   ticksText,
+  trialLineText,
+  triedText,
+  trialText,
   wordsText,
   overlongText,
 }
@@ -113,14 +116,47 @@ ticks l =
     (either (eqb (words l) 3) b (nearestText l) (tick-line l (numberAt l 1) (spelledOf 16 (word 2 l)))
     (question (word 0 (bodyOf l))))
 
+trial-line : (k n w : ℕ) → Clean (trialLineText k n w)
+unfolding isLine
+trial-line k n w =
+    let r = decimalOf n ++ (chars " " ++ sixOf w) in
+    let a = chars "D " ++ (decimalOf k ++ (chars " " ++ r)) in
+    let b = cond (ltb 4 k) (turnedText 10) a in
+    either (ltb 16777215 w) (turnedText 3) (cond (ltb 1000000 n) (turnedText 25) b) (turned 3)
+    (either (ltb 1000000 n) (turnedText 25) b (turned 25)
+    (either (ltb 4 k) (turnedText 10) a (turned 10)
+    (join (decimalOf k) (chars " " ++ r) (decimal k)
+    (join (decimalOf n) (chars " " ++ sixOf w) (decimal n) (six w)))))
+
+tried : (l : List ℕ) (k n w : Spelled) → Clean (triedText l k n w)
+tried l S.Not n w = question (word 0 (bodyOf l))
+tried l (S.Number k) S.Not w = question (word 0 (bodyOf l))
+tried l (S.Number k) (S.Number n) S.Not = question (word 0 (bodyOf l))
+tried l (S.Number k) (S.Number n) (S.Number w) = trial-line k n w
+
+trial : (l : List ℕ) → Clean (trialText l)
+trial l =
+    let k = spelledOf 10 (word 1 l) in
+    let n = spelledOf 10 (word 2 l) in
+    let w = spelledOf 16 (word 3 l) in
+    let d = triedText l k n w in
+    let e = cond (eqb (words l) 4) d (nearestText l) in
+    let b = triedText l k n (S.Number 0) in
+    either (eqb (words l) 2) (triedText l k (S.Number 1000000) (S.Number 0)) (cond (eqb (words l) 3) b e)
+    (tried l k (S.Number 1000000) (S.Number 0))
+    (either (eqb (words l) 3) b e (tried l k n (S.Number 0))
+    (either (eqb (words l) 4) d (nearestText l) (tried l k n w) (question (word 0 (bodyOf l)))))
+
 pub said : (l : List ℕ) → Clean (wordsText l)
 unfolding wordsText
 said l =
     let k = placeOf (word 0 l) in
-    let t = cond (eqb k K.ticks) (ticksText l) (commandText l) in
+    let d = cond (eqb k K.trial) (trialText l) (commandText l) in
+    let t = cond (eqb k K.ticks) (ticksText l) d in
     either (eqb k K.opening) (openingText l) (cond (eqb k K.master) (masterText l) t) (opening l)
     (either (eqb k K.master) (masterText l) t (master l)
-    (either (eqb k K.ticks) (ticksText l) (commandText l) (ticks l) (command l)))
+    (either (eqb k K.ticks) (ticksText l) d (ticks l)
+    (either (eqb k K.trial) (trialText l) (commandText l) (trial l) (command l))))
 
 pub overlong : (l : List ℕ) → Clean (overlongText l)
 unfolding overlongText

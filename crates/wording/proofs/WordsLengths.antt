@@ -7,7 +7,7 @@ use mathlib.Core.Path.{_≡_, refl}
 use borrow.Author.Tests.{leb-true}
 use lib.Dec.{ltb, leb, eqb}
 use lib.ListN.{length, length-append}
-use Rattle.laws.proofs.Pick.{by-bool}
+use Rattle.laws.proofs.Pick.{by-bool, by-lt}
 use Rattle.digits.specs.Digits.{endByte, sixOf}
 use Rattle.digits.specs.declared.Ident.{Ident}
 use Rattle.line.specs.Ranges.{isWithin}
@@ -48,22 +48,25 @@ use Rattle.phrases.specs.Phrases.{
   tickText,
   tickLineText,
   ticksText,
+  trialLineText,
+  triedText,
+  trialText,
   wordsText,
   overlongText,
 }
 use Rattle.phrases.proofs.PhraseLaws.{line-most}
 use Rattle.wording.proofs.MeantLengths.{Small, small-meant}
 
--- ---- texts of at most 170 bytes
+-- ---- texts of at most 200 bytes
 
 unfoldable Short : List ℕ → Type 0
-Short x = length x ≤ 170
+Short x = length x ≤ 200
 
-short : (x : List ℕ) → length x ≤ 170 → Short x
+short : (x : List ℕ) → length x ≤ 200 → Short x
 unfolding Short
 short x h = h
 
-most : (x : List ℕ) → Short x → length x ≤ 170
+most : (x : List ℕ) → Short x → length x ≤ 200
 unfolding Short
 most x h = h
 
@@ -72,8 +75,8 @@ either-short : (t : Bool) (x y : List ℕ) → Short x → Short y → Short (co
 either-short true x y p q = p
 either-short false x y p q = q
 
-turned-most : (n : ℕ) → n ≤ 21 → Short (turnedText n)
-turned-most n h = short (turnedText n) (omega (arith, turned-length n (omega arith)))
+turned-most : (n : ℕ) → n < 4294967296 → Short (turnedText n)
+turned-most n h = short (turnedText n) (omega (arith, turned-length n h))
 
 nearest-most : (l : List ℕ) → Short (nearestText l)
 nearest-most l = short (nearestText l) (question-length (word 0 (bodyOf l)))
@@ -89,7 +92,7 @@ request-most : (silent : Bool) (ident : Ident) (l : List ℕ) (m : Meant) → Sm
 unfolding Small
 request-most silent ident l M.Nothing h = nearest-most l
 request-most silent ident l (M.Command c) h = line-short (record { silent = silent; command = c; ident = ident })
-request-most silent ident l (M.Refused n) h = turned-most n h
+request-most silent ident l (M.Refused n) h = turned-most n (omega (arith, h))
 
 command-most : (l : List ℕ) → Short (commandText l)
 unfolding commandText
@@ -143,13 +146,38 @@ ticks-most l =
       nearest-most l,
     )
 
+-- Two numbers that are small, six digits, and what stands between them.
+trial-line-most : (k n w : ℕ) → Short (trialLineText k n w)
+unfolding sixOf
+trial-line-most k n w =
+    let m = decimalOf k in
+    let d = decimalOf n in
+    let r = chars " " ++ sixOf w in
+    let a = chars "D " ++ (m ++ (chars " " ++ (d ++ r))) in
+    either-short (ltb 16777215 w) (turnedText 3) _ (turned-most 3 (omega arith))
+    (by-lt Short 1000000 n (turnedText 25) (cond (ltb 4 k) (turnedText 10) a) (λ _. turned-most 25 (omega arith))
+    (λ (g : n ≤ 1000000). by-lt Short 4 k (turnedText 10) a (λ _. turned-most 10 (omega arith))
+    (λ (h : k ≤ 4). let x : length m ≤ 10 = decimal-ten k (omega arith) in
+    let y : length d ≤ 10 = decimal-ten n (omega arith) in
+    short a (omega (arith, length-append m (chars " " ++ (d ++ r)), length-append d r)))))
+
+tried-most : (l : List ℕ) (k n w : Spelled) → Short (triedText l k n w)
+tried-most l S.Not n w = nearest-most l
+tried-most l (S.Number k) S.Not w = nearest-most l
+tried-most l (S.Number k) (S.Number n) S.Not = nearest-most l
+tried-most l (S.Number k) (S.Number n) (S.Number w) = trial-line-most k n w
+
+trial-most : (l : List ℕ) → Short (trialText l)
+trial-most l = search (either-short, tried-most, nearest-most l)
+
 words-short : (l : List ℕ) → Short (wordsText l)
 unfolding wordsText
-words-short l = search (either-short, opening-most l, master-most l, ticks-most l, command-most l) depth 15
+words-short l =
+    search (either-short, opening-most l, master-most l, ticks-most l, trial-most l, command-most l) depth 15
 
-pub words-most : (l : List ℕ) → length (wordsText l) ≤ 170
+pub words-most : (l : List ℕ) → length (wordsText l) ≤ 200
 words-most l = most (wordsText l) (words-short l)
 
-pub overlong-most : (l : List ℕ) → length (overlongText l) ≤ 170
+pub overlong-most : (l : List ℕ) → length (overlongText l) ≤ 200
 unfolding overlongText
 overlong-most l = question-length (word 0 (unsilenced (frontOf l 100)))

@@ -44,6 +44,15 @@ pub record ProgramRows : Type 0 where
   pub ticks : answerText (chars "ticks 1000") ≡ chars "T 1000 000000"
   pub ticks-with-word : answerText (chars "ticks 1000 000010") ≡ chars "T 1000 000010"
 
+-- A trial: its line, or the first number that applies.
+pub record TrialRows : Type 0 where
+  pub alone : answerText (chars "trial 0") ≡ chars "D 0 1000000 000000"
+  pub with-ticks : answerText (chars "trial 0 6000") ≡ chars "D 0 6000 000000"
+  pub with-word : answerText (chars "trial 0 6000 002000") ≡ chars "D 0 6000 002000"
+  pub over-word : answerText (chars "trial 5 1000001 1000000") ≡ chars "turned away by 3: an input word is over FFFFFF"
+  pub over-ticks : answerText (chars "trial 5 1000001") ≡ chars "turned away by 25: more than 1,000,000 ticks"
+  pub over-master : answerText (chars "trial 5") ≡ chars "turned away by 10: a value is out of its range"
+
 -- Each kind of reply, and what it is in words.
 pub record ReplyRows : Type 0 where
   pub accepted : answerText (chars "U0000000") ≡ chars "accepted"
@@ -111,11 +120,13 @@ pub record FormRows : Type 0 where
   pub opening : part 10 K.opening forms ≡ chars "opening"
   pub master : part 10 K.master forms ≡ chars "master 5 2 3 0 0"
   pub ticks : part 10 K.ticks forms ≡ chars "ticks 1000, ticks 1000 000010"
+  pub trial : part 10 K.trial forms ≡ chars "trial 0, trial 0 6000, trial 0 6000 002000"
 
 pub record Page : Type 0 where
   pub commands : CommandRows
   pub marked : MarkRows
   pub programs : ProgramRows
+  pub trials : TrialRows
   pub replies : ReplyRows
   pub nearest : NearestRows
   pub axes : AxisRows

@@ -14,6 +14,8 @@ use Rattle.host.specs.Writer.{hasLine, lineOf}
 use Rattle.reader.specs.Reader.{Figures}
 use Rattle.reader.specs.Blocks.{Says}
 use Rattle.session.specs.Asked.{ticksBy, askedOf}
+use Rattle.screen.specs.Asked as screen
+use Rattle.screen.specs.declared.asked.Asked.the-variants.{Trial}
 use Rattle.numerals.specs.Numerals.{spelledOf}
 use Rattle.numerals.specs.declared.Spelled.the-variants.{Number}
 use Rattle.sentences.specs.Places as K
@@ -46,15 +48,15 @@ OneLine = (l : List ℕ) → isLine l ≡ true → isLine (answerText l) ≡ tru
 abbrev pub Wordy : List ℕ → Type 0
 Wordy l = (length l < 100) × (isBlock l ≡ false) × (areSums l ≡ false)
 
--- Blocks by their figures, words by the line that they ask for. `requestIn` and what the bench reads as ticks
--- (session's `ticksBy n (Value w false)`, which is `Ticks n w`) are those of `SameLine` and `TickLine` of phrases.
+-- Blocks by their figures, words by the line that they ask for. `requestIn`, what the bench reads as ticks (session's
+-- `ticksBy n (Value w false)`, which is `Ticks n w`) and what the preview reads as a trial (`askedOf` of screen) are
+-- those of `SameLine`, `TickLine` and `TrialLine` of phrases.
 pub record Told : Type 0 where
   -- a reply block s that says f, its line feed in the place of 0D, is told by f
   pub reply : (s : List ℕ) (f : Figures) → Says s f → answerText (beforeEnd s) ≡ figureText f
   -- words that mean a command are answered with the command's very line
   pub command : (l : List ℕ) (c : Command) → Wordy l → meantBy (bodyOf l) ≡ M.Command c
-      → hasLine (requestIn l c) ≡ true → (placeOf (word 0 l) ≡ K.opening → ⊥) → (placeOf (word 0 l) ≡ K.master → ⊥)
-      → (placeOf (word 0 l) ≡ K.ticks → ⊥) → answerText l ++ (endByte ∷ []) ≡ lineOf (requestIn l c)
+      → hasLine (requestIn l c) ≡ true → answerText l ++ (endByte ∷ []) ≡ lineOf (requestIn l c)
   -- words that ask for ticks are answered with what the bench program reads as these
   pub ticks : (l : List ℕ) (w : ℕ) → Wordy l → placeOf (word 0 l) ≡ K.ticks → words l ≡ 3
       → 1 ≤ numberAt l 1 → numberAt l 1 ≤ 1000000 → spelledOf 16 (word 2 l) ≡ Number w → w < 16777216
@@ -63,6 +65,17 @@ pub record Told : Type 0 where
   pub ticks-alone : (l : List ℕ) → Wordy l → placeOf (word 0 l) ≡ K.ticks → words l ≡ 2
       → 1 ≤ numberAt l 1 → numberAt l 1 ≤ 1000000
       → askedOf (answerText l) ≡ ticksBy (numberAt l 1) (Value 0 false)
+  -- words that ask for a trial are answered with what the program preview reads as it
+  pub trial : (l : List ℕ) (k n w : ℕ) → Wordy l → placeOf (word 0 l) ≡ K.trial → words l ≡ 4
+      → spelledOf 10 (word 1 l) ≡ Number k → spelledOf 10 (word 2 l) ≡ Number n → spelledOf 16 (word 3 l) ≡ Number w
+      → k ≤ 4 → n ≤ 1000000 → w < 16777216 → screen.askedOf (answerText l) ≡ Trial k n w
+  -- without an input word, by 0
+  pub trial-wordless : (l : List ℕ) (k n : ℕ) → Wordy l → placeOf (word 0 l) ≡ K.trial → words l ≡ 3
+      → spelledOf 10 (word 1 l) ≡ Number k → spelledOf 10 (word 2 l) ≡ Number n
+      → k ≤ 4 → n ≤ 1000000 → screen.askedOf (answerText l) ≡ Trial k n 0
+  -- and with a master alone, by 1,000,000 ticks
+  pub trial-alone : (l : List ℕ) (k : ℕ) → Wordy l → placeOf (word 0 l) ≡ K.trial → words l ≡ 2
+      → spelledOf 10 (word 1 l) ≡ Number k → k ≤ 4 → screen.askedOf (answerText l) ≡ Trial k 1000000 0
 
 -- ---- A whole input
 

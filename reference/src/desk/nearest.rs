@@ -1,7 +1,7 @@
 //! From words, rule 5: the nearest form.
 
 /// From words: each word and its forms, in the order of the tables.
-pub const FORMS: [(&str, &str); 21] = [
+pub const FORMS: [(&str, &str); 22] = [
     ("start", "start 0, start 0 after dwell"),
     ("travel", "travel 2"),
     ("position", "position 1"),
@@ -23,6 +23,7 @@ pub const FORMS: [(&str, &str); 21] = [
     ("opening", "opening"),
     ("master", "master 5 2 3 0 0"),
     ("ticks", "ticks 1000, ticks 1000 000010"),
+    ("trial", "trial 0, trial 0 6000, trial 0 6000 002000"),
 ];
 
 /// From words: how many first letters two words have in common, capitals and small letters alike.

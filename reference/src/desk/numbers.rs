@@ -19,12 +19,12 @@ fn number(word: &[u8], base: u8) -> Option<u32> {
 }
 
 /// From words: a decimal number has digits 0-9, with leading zeros or without.
-pub(super) fn decimal(word: &[u8]) -> Option<u32> {
+pub(crate) fn decimal(word: &[u8]) -> Option<u32> {
     number(word, 10)
 }
 
 /// From words: a hexadecimal number has digits 0-9, A-F or a-f, with leading zeros or without.
-pub(super) fn hexadecimal(word: &[u8]) -> Option<u32> {
+pub(crate) fn hexadecimal(word: &[u8]) -> Option<u32> {
     number(word, 16)
 }
 

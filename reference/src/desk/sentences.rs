@@ -1,7 +1,7 @@
 //! From words: the sentence of each number.
 
-/// From words: the sentences of numbers 1 to 24, in this order.
-pub const SENTENCES: [&str; 24] = [
+/// From words: the sentences of numbers 1 to 25, in this order.
+pub const SENTENCES: [&str; 25] = [
     "the switch is over 15 or equal to 12",
     "a reply buffer is under 120 bytes",
     "an input word is over FFFFFF",
@@ -26,9 +26,10 @@ pub const SENTENCES: [&str; 24] = [
     "no space for the whole entry",
     "the journal ends within an entry",
     "a number of the entry is out of its range or longer than it need be",
+    "more than 1,000,000 ticks",
 ];
 
-/// From words: a number from 1 to 24 with its sentence behind it.
-pub(super) fn turned_away(number: u8) -> String {
+/// From words: a number from 1 to 25 with its sentence behind it.
+pub(crate) fn turned_away(number: u8) -> String {
     format!("turned away by {number}: {}", SENTENCES[number as usize - 1])
 }

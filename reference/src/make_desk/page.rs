@@ -29,8 +29,19 @@ const COMMANDS: [&str; 23] = [
     "speed 0.3",
 ];
 
-/// From words, second table.
-const PROGRAM_WORDS: [&str; 4] = ["opening", "master 5 2 3 0 0", "ticks 1000", "ticks 1000 000010"];
+/// From words, second table, and the examples under it.
+const PROGRAM_WORDS: [&str; 10] = [
+    "opening",
+    "master 5 2 3 0 0",
+    "ticks 1000",
+    "ticks 1000 000010",
+    "trial 0",
+    "trial 0 6000",
+    "trial 0 6000 002000",
+    "trial 5 1000001 1000000",
+    "trial 5 1000001",
+    "trial 5",
+];
 
 /// From words, nearest forms.
 const NEAREST: [&str; 4] = ["Speed 5", "strt 0", "silent ticks 5", "?"];

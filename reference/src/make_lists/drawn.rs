@@ -3,17 +3,17 @@
 use crate::text::Text;
 
 /// A counter that draws numbers: the next is 1,664,525 times this one and 1,013,904,223, modulo 2 to the 32.
-pub(super) struct Draw(pub(super) u32);
+pub(crate) struct Draw(pub(crate) u32);
 
 impl Draw {
     /// A number below the end.
-    pub(super) fn below(&mut self, end: u32) -> u32 {
+    pub(crate) fn below(&mut self, end: u32) -> u32 {
         self.0 = self.0.wrapping_mul(1_664_525).wrapping_add(1_013_904_223);
         (self.0 >> 8) % end
     }
 
     /// One of the given.
-    pub(super) fn one<'a>(&mut self, of: &[&'a str]) -> &'a str {
+    pub(crate) fn one<'a>(&mut self, of: &[&'a str]) -> &'a str {
         of[self.below(of.len() as u32) as usize]
     }
 }
@@ -32,7 +32,7 @@ fn drawn_setting(draw: &mut Draw, second: char, end: &str) -> String {
 }
 
 /// Lines: a drawn line that is often a command.
-pub(super) fn drawn_line(draw: &mut Draw) -> String {
+pub(crate) fn drawn_line(draw: &mut Draw) -> String {
     let second = if draw.below(6) == 0 { '4' } else { '0' };
     let end = if draw.below(4) == 0 { draw.one(&["A", "0", "F", "7", "a", "G"]) } else { "" };
     match draw.below(12) {
@@ -46,7 +46,7 @@ pub(super) fn drawn_line(draw: &mut Draw) -> String {
 }
 
 /// Stops: a drawn input word, most often without a cause of a stop.
-pub(super) fn drawn_word(draw: &mut Draw) -> u32 {
+pub(crate) fn drawn_word(draw: &mut Draw) -> u32 {
     match draw.below(20) {
         0 => draw.below(0x100_0000),
         1 => 0x0100_0000 + draw.below(0x100_0000),

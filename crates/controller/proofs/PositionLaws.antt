@@ -63,7 +63,3 @@ module _ (s : ℕ) (h : List Call) (ps : List Position) (e : ps ≡ each (heldPo
       ∷ signed-is d 3 (omega arith) z₃ r₃ i
       ∷ signed-is d 4 (omega arith) z₄ r₄ i
       ∷ []
-
-  -- Whatever list is held so has these signed numbers.
-  pub axes-given : (rs : List Position) → rs ≡ each (heldPosition (state s h)) → each at ≡ map positionOf rs
-  axes-given rs k = sym q ∙ ap (map positionOf) (e ∙ sym k)

@@ -1,0 +1,22 @@
+// A half-received line put aside, as a trial does on its copy (paper 02, 5/14). The only premise is that the controller
+// is reachable.
+ghost use mathlib.Core.List.{[]};
+ghost use mathlib.Core.Path.{_≡_};
+ghost use Rattle.machine.specs.State.{withLine};
+ghost use Rattle.controller.specs.Held.{held};
+ghost use Rattle.controller.specs.Reach.{Reachable, Made};
+use crate::state::Controller;
+use crate::with_line;
+use receiver::Receiver;
+
+impl Controller {
+    // The controller as it is, but for the characters since the last 0D, of which it has none.
+    pub fn without_line(self) -> Controller
+        requires { ⌜ Reachable self ⌝ }
+        ensures { λ r. ⌜ Made self (λ m. r ≡ held (withLine m [])) ⌝ }
+        ensures { λ r. ⌜ Reachable r ⌝ }
+    {
+        let line = Receiver::new();
+        with_line(self, line)
+    }
+}

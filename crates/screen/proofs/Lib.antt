@@ -1,0 +1,4 @@
+pub mod AnswerLaws
+pub mod PageLaws
+pub mod ShareLaws
+pub mod WholeLaws

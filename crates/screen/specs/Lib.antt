@@ -1,0 +1,5 @@
+pub mod Answer
+pub mod Asked
+pub mod Page
+pub mod Promises
+pub mod Screen

@@ -1,0 +1,5 @@
+pub mod TrialLaws
+mod EndLaws
+mod PlainLaws
+mod BenchLaws
+mod WitnessLaws

@@ -1,0 +1,4 @@
+pub mod Trial
+pub mod Ticking
+pub mod Promises
+pub mod Witness

@@ -1,0 +1,15 @@
+-- What the private functions of ticking.rt do: a means of proof.
+use Prim.Native.Nat.{ℕ}
+use Rattle.machine.specs.State.{Machine}
+use Rattle.machine.specs.Steps as steps
+use Rattle.controller.specs.Held.{held, isEnd}
+use Rattle.trial.specs.declared.ticking.Ticked.{Ticked}
+use Rattle.trial.specs.Trial.{ticked, firstOf, endOf}
+
+-- One tick, the n-th, by the end before it and the machine's answer.
+abbrev pub tickedOf : ℕ → ℕ → steps.TickAnswer → Ticked
+tickedOf before n a = record { controller = held (a .machine); end = firstOf before (isEnd (a .entry)) n }
+
+-- So many.
+abbrev pub ranOf : Machine → ℕ → ℕ → Ticked
+ranOf m word n = record { controller = held (ticked m word n); end = endOf m word n }
