@@ -17,6 +17,9 @@ pub struct Called {
     trying: Trying,
 }
 
+/// One in so many doses that meet the full watch is tried until then; in half of the lists it is on from power-on.
+const WATCHED: u32 = 20;
+
 /// The length of a buffer that is too short, often by one byte.
 fn short(random: &mut Random) -> usize {
     let least = LEAST_REPLY_BUFFER as u32;
@@ -31,7 +34,7 @@ fn long(random: &mut Random) -> usize {
 impl Called {
     /// The last ones are the random numbers of its trials.
     pub fn new(switch: u8, ticks: u32, trials: Random) -> Called {
-        Called { stand: Stand::new(switch, ticks), steps: Vec::new(), trying: Trying::new(trials) }
+        Called { stand: Stand::new(switch, ticks), steps: Vec::new(), trying: Trying::new(trials, WATCHED) }
     }
 
     /// The list, which ends with a trial, and what it meets.

@@ -17,13 +17,16 @@ pub struct Previewed {
 /// What the bench program answers to most lines that begin with D; they alter nothing.
 const NO_LETTER: u8 = 5;
 
+/// One in so many doses that meet the full watch is tried until then; it is seldom on.
+const WATCHED: u32 = 4;
+
 /// What reads everything.
 const EVERYTHING: &[u8] = b"q08";
 
 impl Previewed {
     /// The last ones are the random numbers of its D lines.
     pub fn new(ticks: u32, trials: Random) -> Previewed {
-        Previewed { typed: Typed::new(ticks), trying: Trying::new(trials), screens: Screens::default() }
+        Previewed { typed: Typed::new(ticks), trying: Trying::new(trials, WATCHED), screens: Screens::default() }
     }
 
     /// The text, whose last line is often a D line and may lack its line feed, and what it meets.

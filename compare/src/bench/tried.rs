@@ -14,15 +14,17 @@ const LINES: u32 = 12;
 const RUNS: u32 = 2;
 const UNDER_WAY: u32 = 30;
 
-/// The random numbers of trials, and the input word that is usual.
+/// The random numbers of trials, the input word that is usual, and in how many doses that meet the full watch one is
+/// tried until then.
 pub struct Trying {
     pub random: Random,
     word: u32,
+    watched: u32,
 }
 
 impl Trying {
-    pub fn new(random: Random) -> Trying {
-        Trying { random, word: 0 }
+    pub fn new(random: Random, watched: u32) -> Trying {
+        Trying { random, word: 0, watched }
     }
 
     fn is_due(&mut self, stand: &Stand, one_in: u32) -> bool {
@@ -47,7 +49,7 @@ impl Trying {
     }
 
     pub fn asked(&mut self, stand: &Stand) -> Asked {
-        chosen(&mut self.random, &stand.observed, self.word)
+        chosen(&mut self.random, &stand.observed, self.word, self.watched)
     }
 
     /// Whether the very start line and as many ticks follow: at times, where no line has begun and the ticks leave

@@ -83,6 +83,6 @@ impl fmt::Display for Trials {
         writeln!(f, ", did not end {}; numbers of trials: {numbers}", g(self.not_ended))?;
         let met = listed(MET_NAMES.iter().zip(self.met));
         writeln!(f, "  trials that met: {met}, the full watch {}", g(self.watched))?;
-        writeln!(f, "  trials done for real behind it {}, switches with trials {}", g(self.done), self.switches.count())
+        writeln!(f, "  trials then done for real {}, switches with trials {}", g(self.done), self.switches.count())
     }
 }

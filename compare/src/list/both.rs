@@ -139,3 +139,34 @@ impl Both {
         self.journal.read_back()
     }
 }
+
+#[cfg(test)]
+mod tests {
+    use super::*;
+    use reference::line::with_line_end;
+
+    const ASKED: Asked = Asked { master: 0, word: 0, ticks: 207 };
+
+    fn send(both: &mut Both, line: &str) {
+        for byte in with_line_end(line.as_bytes()) {
+            both.call(Call::byte(byte, 120)).expect("both answer alike");
+        }
+    }
+
+    /// Both with a move of one pulse set, which ends in tick 207, a trial of it, the start, and so many ticks.
+    fn done(ticks: u32) -> Both {
+        let mut both = Both::power_on(0).expect("both begin alike");
+        ["P0000001", "P0180001", "P08F4240", "P0900FFF"].iter().for_each(|line| send(&mut both, line));
+        both.step(Step::Trial(ASKED)).expect("both tell the same");
+        send(&mut both, "Q080");
+        (0..ticks).for_each(|_| both.step(Step::Call(Call::ticks(1, 0))).expect("both answer alike"));
+        both
+    }
+
+    #[test]
+    fn what_is_done_otherwise_than_tried_is_found() {
+        assert_eq!(done(207).step(Step::AsTried), Ok(()));
+        assert!(done(206).step(Step::AsTried).is_err());
+        assert!(done(0).step(Step::AsTried).is_err());
+    }
+}

@@ -50,3 +50,25 @@ impl Followed {
         self.waiting &= in_dwell(status);
     }
 }
+
+#[cfg(test)]
+mod tests {
+    use super::*;
+    use crate::bits::{BUSY, MOVING};
+
+    #[test]
+    fn a_start_waits_until_the_dwell_ends() {
+        let (mut followed, mut blocks) = (Followed::power_on(), Blocks::default());
+        followed.accepted(b"Q088", 0, &mut blocks);
+        assert!(!followed.waiting);
+        for (line, waits) in [("Q488", true), ("P0000005", true), ("Q09", false), ("Q08C", true)] {
+            followed.accepted(line.as_bytes(), BUSY, &mut blocks);
+            assert_eq!(followed.waiting, waits);
+        }
+        followed.ticked(0, BUSY);
+        assert!(followed.waiting);
+        followed.ticked(0, BUSY | MOVING);
+        assert!(!followed.waiting);
+        assert_eq!(followed.distances, [5, 0, 0, 0, 0]);
+    }
+}

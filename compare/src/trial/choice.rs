@@ -17,6 +17,9 @@ const SOME: u32 = 4_000;
 /// An end is looked for in so many ticks, then in more.
 const NEAR: [u32; 3] = [300, 2_500, 20_000];
 
+/// Of the other doses that take long one in so many is tried to the end.
+const UNWATCHED: u32 = 250;
+
 /// Mostly the longest axis; at times another, or none of the five.
 fn master(random: &mut Random, distances: [u32; 5]) -> u32 {
     match random.below(25) {
@@ -39,11 +42,12 @@ fn word(random: &mut Random, usual: u32) -> u32 {
     }
 }
 
-/// A dose as it is tried.
+/// A dose as it is tried; one in `watched` of those that meet the full watch is tried until then.
 struct Dose<'a> {
     observed: &'a Observed,
     master: u32,
     word: u32,
+    watched: u32,
 }
 
 impl Dose<'_> {
@@ -67,10 +71,15 @@ impl Dose<'_> {
         }
     }
 
-    /// As many ticks as it takes, one fewer or one more. One that takes long is at times tried to the end, oftener if
-    /// the watch may stop it.
+    /// Whether a full watch finds it running: in 4 s it goes no further than the speed setting, in quarters of a hertz.
+    fn meets_watch(&self) -> bool {
+        let distance = self.observed.distances().get(self.master as usize).copied();
+        self.observed.watches_moves() && distance > Some(self.observed.machine().speed())
+    }
+
+    /// As many ticks as it takes, one fewer or one more. One that takes long is at times tried to the end.
     fn about_end(&self, random: &mut Random) -> u32 {
-        let seldom = if self.observed.watches_moves() { 30 } else { 150 };
+        let seldom = if self.meets_watch() { self.watched } else { UNWATCHED };
         match self.end(&NEAR) {
             Some(end) => Dose::beside(random, end),
             None if random.below(seldom) == 0 => self.far(random),
@@ -79,12 +88,12 @@ impl Dose<'_> {
     }
 
     fn ticks(&self, random: &mut Random) -> u32 {
-        match random.below(1_000) {
+        match random.below(2_000) {
             0 => self.far(random),
-            1..=10 => random.pick(&[MOST_TICKS + 1, MOST_TICKS + 1, u32::MAX]),
-            11..=50 => 0,
-            51..=90 => 1,
-            91..=700 => self.about_end(random),
+            1..=20 => random.pick(&[MOST_TICKS + 1, MOST_TICKS + 1, u32::MAX]),
+            21..=100 => 0,
+            101..=180 => 1,
+            181..=1_400 => self.about_end(random),
             _ => random.spread(SOME),
         }
     }
@@ -104,13 +113,14 @@ fn any_bounds(random: &mut Random) -> Asked {
     Asked { master: number(LAST_MASTER), word: number(INPUT_WORD_END - 1), ticks: number(MOST_TICKS) }
 }
 
-/// A trial on the machine as it is. The usual word is mostly one under which nothing acts.
-pub fn chosen(random: &mut Random, observed: &Observed, usual: u32) -> Asked {
+/// A trial on the machine as it is. The usual word is mostly one under which nothing acts; one in `watched` doses that
+/// meet the full watch is tried until then.
+pub fn chosen(random: &mut Random, observed: &Observed, usual: u32, watched: u32) -> Asked {
     if random.chance(1) {
         return any_bounds(random);
     }
     let master = master(random, observed.distances());
     let word = word(random, usual);
-    let ticks = Dose { observed, master, word }.ticks(random);
+    let ticks = Dose { observed, master, word, watched }.ticks(random);
     Asked { master, word, ticks }
 }

@@ -57,3 +57,21 @@ pub fn screen_line(random: &mut Random, asked: Asked) -> Vec<u8> {
         _ => plain(asked).into_bytes(),
     }
 }
+
+#[cfg(test)]
+mod tests {
+    use super::*;
+    use reference::preview::{self, read_trial_line};
+
+    #[test]
+    fn most_lines_ask_for_the_trial_and_each_begins_with_d() {
+        let mut random = Random::of_item(1, 0, 0);
+        let asked = Asked { master: 3, word: 0x2000, ticks: 6_000 };
+        let lines: Vec<Vec<u8>> = (0..2_000).map(|_| screen_line(&mut random, asked)).collect();
+        assert!(lines.iter().all(|line| line.starts_with(b"D") && !line.contains(&b'\n')));
+        let read = preview::Asked { master: 3, ticks: 6_000, word: 0x2000 };
+        let right = lines.iter().filter(|line| read_trial_line(line) == Some(read)).count();
+        let formless = lines.iter().filter(|line| read_trial_line(line).is_none()).count();
+        assert!(right > 1_500 && formless > 100, "{right} and {formless} of 2,000");
+    }
+}

@@ -1,5 +1,5 @@
-// A half-received line put aside, as a trial does on its copy (paper 02, 5/14). The only premise is that the controller
-// is reachable.
+// A half-received line put aside, as a trial does on its copy (paper 02, 5/14). It is no call of demand 3's list: what
+// it hands back is for a copy, never for the bench. The only premise is that the controller is reachable.
 ghost use mathlib.Core.List.{[]};
 ghost use mathlib.Core.Path.{_≡_};
 ghost use Rattle.machine.specs.State.{withLine};

@@ -2,7 +2,7 @@
 use Prim.Native.Nat.{ℕ, zero, suc, _<_}
 use native.Mathlib.Omega.{arith}
 use mathlib.Core.Bool.{Bool, true, false, cond}
-use mathlib.Core.Path.{_≡_, refl, sym, ap, subst, _∙_}
+use mathlib.Core.Path.{_≡_, refl, sym, subst}
 use borrow.Author.Tests.{eqb-true, eqb-false}
 use lib.Dec.{eqb}
 use Rattle.laws.proofs.Pick.{by-bool}
@@ -11,14 +11,14 @@ use Rattle.trial.specs.Trial.{endsNext, endOf}
 use Rattle.trial.specs.Promises.{FirstEnd}
 
 module _ (m : Machine) (w : ℕ) where
-  abbrev end : ℕ → ℕ
+  abbrev pub end : ℕ → ℕ
   end n = endOf m w n
 
-  abbrev Ends : ℕ → Bool → Type 0
+  abbrev pub Ends : ℕ → Bool → Type 0
   Ends i b = endsNext m w i ≡ b
 
   -- One tick more, by the end before it and whether it ends the move.
-  step : (n : ℕ) (P : ℕ → Type 0) → (end n ≡ 0 → Ends n true → P (suc n)) → (end n ≡ 0 → Ends n false → P 0)
+  pub step : (n : ℕ) (P : ℕ → Type 0) → (end n ≡ 0 → Ends n true → P (suc n)) → (end n ≡ 0 → Ends n false → P 0)
       → ((end n ≡ 0 → ⊥) → P (end n)) → P (end (suc n))
   unfolding endOf
   step n P f g h =

@@ -19,10 +19,10 @@ use Rattle.receiver.specs.Receiver.{heardLine}
 use Rattle.machine.specs.State.{Machine, withLine, withWatch}
 use Rattle.machine.specs.Starts.{begun}
 use Rattle.machine.specs.Commands.{number}
-use Rattle.machine.specs.Steps.{ByteAnswer, Outcome, accepted, refused, decided, outcomeOf, answered, byteStep}
+use Rattle.machine.specs.Steps.{ByteAnswer, Outcome, accepted, refused, outcomeOf, answered, byteStep}
 use Rattle.machine.specs.Calls.{given, run, from, buffer, bytes}
 use Rattle.controller.proofs.GatherLaws.{joined}
-use Rattle.trial.specs.Trial.{aside, startLine, started}
+use Rattle.trial.specs.Trial.{aside, startLine, startAnswer}
 use Rattle.trial.specs.Promises.{PlainStart}
 use Rattle.trial.proofs.TrialLaws.{characters}
 
@@ -53,18 +53,18 @@ module _ (m : Machine) (k : ℕ) (l : k < 5) where
   abbrev comes : ℕ → Outcome
   comes n = cond (eqb n 0) (accepted command digits false Absent) (refused n false Absent)
 
-  decides : started m k ≡ answered line 13 (comes (number m command))
+  decides : startAnswer m k ≡ answered line 13 (comes (number m command))
   decides =
       ap (λ (x : Machine). byteStep x 13 buffer) (typed m k)
       ∙ ap (λ (h : Heard). answered line 13 (outcomeOf line h)) (heard k l)
 
-  turned : started m k .number ≡ number m command
+  turned : startAnswer m k .number ≡ number m command
   turned =
       ap (λ (a : ByteAnswer). a .number) decides
       ∙ by-bool (λ (o : Outcome). answered line 13 o .number ≡ number m command) (eqb (number m command) 0) _ _
       (λ e. sym (eqb-true (number m command) 0 e)) (λ e. refl)
 
-  begins : number m command ≡ 0 → started m k .machine ≡ withWatch (begun (aside m) k) 0
+  begins : number m command ≡ 0 → startAnswer m k .machine ≡ withWatch (begun (aside m) k) 0
   begins e =
       ap (λ (a : ByteAnswer). a .machine) decides
       ∙ ap (λ (t : Bool). answered line 13 (cond t (accepted command digits false Absent)

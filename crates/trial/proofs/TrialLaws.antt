@@ -1,6 +1,6 @@
 -- The ticks of a trial, one more at a time, and the start before them: what is done on the copy is done in a list of
 -- calls. Assumes nothing.
-use Prim.Native.Nat.{ℕ, suc, _+_, _≤_, _<_}
+use Prim.Native.Nat.{ℕ, _+_, _≤_, _<_}
 use native.Mathlib.Numerals.{add-one}
 use native.Mathlib.Omega.{arith}
 use mathlib.Core.Bool.{Bool, cond}
@@ -23,7 +23,7 @@ use Rattle.controller.specs.Reach.{Reachable, Made}
 use Rattle.controller.proofs.GatherLaws.{stretch-on, after-stretch}
 use Rattle.trial.specs.declared.Trial.{Trial}
 use Rattle.trial.specs.declared.ticking.Ticked.{Ticked}
-use Rattle.trial.specs.Trial.{aside, startLine, started, endOf, turned, shown, runOf, trialOf}
+use Rattle.trial.specs.Trial.{aside, startLine, startAnswer, endOf, turned, shown, runOf, trialOf}
 use Rattle.trial.specs.Ticking.{tickedOf, ranOf}
 
 -- ---- Ticks
@@ -80,14 +80,14 @@ module _ (s : ℕ) (h : List Call) (k : ℕ) where
       ∙ (stretch-on s (unlined h) (startLine k)
       ∙ (λ i. from (unlined-is s h i) (bytes (characters k i) [])))
 
-  pub start-state : state s startCalls ≡ started (state s h) k .machine
+  pub start-state : state s startCalls ≡ startAnswer (state s h) k .machine
   unfolding run
   start-state = ap (λ (m : Machine). byteStep m endByte buffer .machine) copied
 
   -- What the copy, the line that it gathers and the 0D answer.
   pub start-is : (c copy : Controller) (line : List ℕ) (g : Gathered) (r : ByteAnswer) → line ≡ startLine k
       → held (state s h) ≡ c → Made c (λ m. copy ≡ held (withLine m [])) → Made copy (λ m. g ≡ heldGathered m line)
-      → Made (g .controller) (λ m. r ≡ heldByte (byteStep m endByte buffer)) → r ≡ heldByte (started (state s h) k)
+      → Made (g .controller) (λ m. r ≡ heldByte (byteStep m endByte buffer)) → r ≡ heldByte (startAnswer (state s h) k)
   start-is c copy line g r l e bare gathers answers =
       answers s typed (ap held (ap (λ (x : List ℕ). state s (bytes x (unlined h))) (sym (ap beforeEnd l ∙ characters k)))
       ∙ after-stretch copy s (unlined h) (ap held (unlined-is s h) ∙ sym (bare s h e)) line g gathers)
@@ -106,15 +106,15 @@ module _ (m : Machine) (k w n : ℕ) where
   by-master p q r = on-ge _ _ _ _ _ p (on-ge _ _ _ _ _ q (on-lt _ _ _ _ _ r refl))
 
   module _ (p : w ≤ 16777215) (q : n ≤ 1000000) (r : k ≤ 4) where
-    pub by-start : (started m k .number ≡ 0 → ⊥) → turned (started m k .number) ≡ trialOf m k w n
+    pub by-start : (startAnswer m k .number ≡ 0 → ⊥) → turned (startAnswer m k .number) ≡ trialOf m k w n
     by-start z = on-ge _ _ _ _ _ p (on-ge _ _ _ _ _ q (on-ge _ _ _ _ _ r (on-ne _ _ _ _ _ z refl)))
 
-    pub by-run : started m k .number ≡ 0 → runOf (started m k .machine) w n ≡ trialOf m k w n
+    pub by-run : startAnswer m k .number ≡ 0 → runOf (startAnswer m k .machine) w n ≡ trialOf m k w n
     by-run z = on-ge _ _ _ _ _ p (on-ge _ _ _ _ _ q (on-ge _ _ _ _ _ r (on-eq _ _ _ _ _ z refl)))
 
 -- ---- After the start
 
-module _ (c : Controller) (k w n : ℕ) (r : ByteAnswer) (e : Made c (λ m. r ≡ heldByte (started m k))) where
+module _ (c : Controller) (k w n : ℕ) (r : ByteAnswer) (e : Made c (λ m. r ≡ heldByte (startAnswer m k))) where
   start-held : (s : ℕ) (h : List Call) → held (state s h) ≡ c → held (state s (startCalls s h k)) ≡ r .controller
   start-held s h q = ap held (start-state s h k) ∙ sym (ap (λ (x : ByteAnswer). x .controller) (e s h q))
 
@@ -123,7 +123,7 @@ module _ (c : Controller) (k w n : ℕ) (r : ByteAnswer) (e : Made c (λ m. r �
     run-reached q = ran-reached (r .controller) w n ran q t
 
     pub run-is : (x : Trial) → Made (ran .controller) (λ m. x ≡ shown m (ran .end))
-        → Made c (λ m. x ≡ runOf (started m k .machine) w n)
+        → Made c (λ m. x ≡ runOf (startAnswer m k .machine) w n)
     run-is x p s h q =
         let g = startCalls s h k in
         p s (ticks n w g) (ran-held (r .controller) w s g (start-held s h q) n ran t)

@@ -15,6 +15,7 @@ trials = record {
   moving = refl;
   longer = refl;
   none = refl;
+  unsensed = refl;
   sensed = refl;
   active = refl;
 }

@@ -4,7 +4,7 @@ use Rattle.machine.specs.State.{Machine}
 use Rattle.machine.specs.Steps as steps
 use Rattle.controller.specs.Held.{held, isEnd}
 use Rattle.trial.specs.declared.ticking.Ticked.{Ticked}
-use Rattle.trial.specs.Trial.{ticked, firstOf, endOf}
+use Rattle.trial.specs.Trial.{afterTicks, firstOf, endOf}
 
 -- One tick, the n-th, by the end before it and the machine's answer.
 abbrev pub tickedOf : ℕ → ℕ → steps.TickAnswer → Ticked
@@ -12,4 +12,4 @@ tickedOf before n a = record { controller = held (a .machine); end = firstOf bef
 
 -- So many.
 abbrev pub ranOf : Machine → ℕ → ℕ → Ticked
-ranOf m word n = record { controller = held (ticked m word n); end = endOf m word n }
+ranOf m word n = record { controller = held (afterTicks m word n); end = endOf m word n }

@@ -26,18 +26,18 @@ startLine master = chars "Q08" ++ ((48 + master) ∷ [])
 
 -- What its 0D answers: the machine after the start, and the number that turns it away, or 0. The line's checks read the
 -- last word before; the word of the trial comes with the ticks alone.
-abbrev pub started : Machine → ℕ → steps.ByteAnswer
-started m master = byteStep (from (aside m) (bytes (startLine master) [])) endByte buffer
+abbrev pub startAnswer : Machine → ℕ → steps.ByteAnswer
+startAnswer m master = byteStep (from (aside m) (bytes (startLine master) [])) endByte buffer
 
 -- ---- The ticks, each with the input word and a buffer of 120 bytes
 
 -- The machine after n of them.
-abbrev pub ticked : Machine → ℕ → ℕ → Machine
-ticked m word n = from m (ticks n word [])
+abbrev pub afterTicks : Machine → ℕ → ℕ → Machine
+afterTicks m word n = from m (ticks n word [])
 
 -- Tick n + 1 ends the move: it answers its entry (1/14).
 abbrev pub endsNext : Machine → ℕ → ℕ → Bool
-endsNext m word n = isEnd (tickStep (ticked m word n) word buffer .entry)
+endsNext m word n = isEnd (tickStep (afterTicks m word n) word buffer .entry)
 
 -- The tick of the end, counted from 1: the first of n that ends the move; 0 where none of them does.
 abbrev pub firstOf : ℕ → Bool → ℕ → ℕ
@@ -62,9 +62,9 @@ turned number = record {
 abbrev pub shown : Machine → ℕ → Trial
 shown m end = record { number = 0; end = end; travels = each (heldTravel m); positions = each (m .position) }
 
--- The start that was accepted and n ticks.
+-- What n ticks after an accepted start show.
 abbrev pub runOf : Machine → ℕ → ℕ → Trial
-runOf m word n = shown (ticked m word n) (endOf m word n)
+runOf m word n = shown (afterTicks m word n) (endOf m word n)
 
 -- 3 the input word, 25 over 1,000,000 ticks, 10 a master over 4, then the start's own (11 to 17).
 abbrev pub trialOf : Machine → ℕ → ℕ → ℕ → Trial
@@ -72,5 +72,5 @@ trialOf m master word n =
     cond (tooLarge word) (turned 3)
     (cond (ltb 1000000 n) (turned 25)
     (cond (ltb 4 master) (turned 10)
-    (cond (eqb (started m master .number) 0) (runOf (started m master .machine) word n)
-    (turned (started m master .number)))))
+    (cond (eqb (startAnswer m master .number) 0) (runOf (startAnswer m master .machine) word n)
+    (turned (startAnswer m master .number)))))

@@ -30,17 +30,19 @@ pub record TrialWitness : Type 0 where
   pub word : trialOf (state 0 ready) 9 16777216 2000000 ≡ turned 3
   pub most : trialOf (state 0 ready) 9 16777215 1000001 ≡ turned 25
   pub master : trialOf (state 0 (line "Q080" ready)) 5 16777215 1000000 ≡ turned 10
+  -- the start's own
   pub moving : trialOf (state 0 (line "Q080" ready)) 1 0 1000000 ≡ turned 11
   pub longer : trialOf (state 0 ready) 1 0 1000000 ≡ turned 14
   -- no tick
   pub none : trialOf (state 0 crooked) 0 0 0 ≡ showing 0 0 0 0 (pos 0) (pos 0) (pos 0)
   -- the held word has the sensor's bit: the start does not see it, the first tick does and ends the move; in the last
   -- word before, the start sees it
+  pub unsensed : trialOf (state 0 ready) 0 8192 0 ≡ showing 0 0 0 0 (pos 0) (pos 0) (pos 0)
   pub sensed : trialOf (state 0 ready) 0 8192 3 ≡ showing 1 0 0 0 (pos 0) (pos 0) (pos 0)
   pub active : trialOf (state 0 (tick 8192 buffer ∷ ready)) 0 0 3 ≡ turned 13
 
 -- The move of one pulse ends in tick 207, though the watch, on from power-on, has counted to 999,990 and a half-received
 -- line would set another distance: the start zeroes the one, and the other is aside.
 pub record WholeTrial : Type 0 where
-  pub ends : trialOf (withWatch (state 0 (bytes (chars "P0000003") ready)) 999990) 0 0 207
-      ≡ showing 207 1 0 0 (pos 1) (pos 0) (pos 0)
+  pub ends : trialOf (withWatch (state 0 (bytes (chars "P0000003") (line "P0180001" ready))) 999990) 0 0 207
+      ≡ showing 207 1 1 0 (pos 1) (negsuc 0) (pos 0)

@@ -5,8 +5,8 @@ ghost use Prim.Native.Nat.{_≤_};
 ghost use mathlib.Core.Path.{_≡_};
 ghost use Rattle.controller.specs.Held.{heldByte};
 ghost use Rattle.controller.specs.Reach.{Reachable, Made};
-ghost use Rattle.trial.specs.Trial.{started, turned, shown, trialOf};
-ghost use Rattle.trial.specs.Promises.{PlainStart, FirstEnd, OnTheBench};
+ghost use Rattle.trial.specs.Trial.{startAnswer, turned, shown, trialOf};
+ghost use Rattle.trial.specs.Promises.{Numbers, PlainStart, FirstEnd, Rest, OnTheBench};
 ghost use Rattle.trial.specs.Witness.{TrialWitness, WholeTrial};
 use crate::ticking::Ticked;
 use block::REPLY_ROOM;
@@ -50,7 +50,7 @@ fn turned(number: u8) -> Trial
 fn start(c: Controller, master: u32) -> ByteAnswer
     requires { ⌜ Reachable c ⌝ }
     requires { ⌜ master ≤ 4 ⌝ }
-    ensures { λ r. ⌜ Made c (λ m. r ≡ heldByte (started m master)) ⌝ }
+    ensures { λ r. ⌜ Made c (λ m. r ≡ heldByte (startAnswer m master)) ⌝ }
     ensures { λ r. ⌜ Reachable (r .controller) ⌝ }
 {
     let copy = c.without_line();
@@ -77,14 +77,17 @@ fn shown(ran: Ticked) -> Trial
     }
 }
 
-// What a plain start and so many ticks would leave. What the line means, that the end is the first, that it is what the
-// bench itself would come to, and computed trials, stand here as promises.
+// What a plain start and so many ticks would leave. Its numbers for every machine, what the line means, that the end is
+// the first and the rest alters nothing, that the bench itself would come to the same, and computed trials, stand here
+// as promises.
 #[no_mangle]
 pub extern "C" fn temixohuel_trial(c: Controller, master: u32, word: u32, ticks: u32) -> Trial
     requires { ⌜ Reachable c ⌝ }
     ensures { λ r. ⌜ Made c (λ m. r ≡ trialOf m master word ticks) ⌝ }
+    ensures { λ _. ⌜ Numbers ⌝ }
     ensures { λ _. ⌜ PlainStart ⌝ }
     ensures { λ _. ⌜ FirstEnd ⌝ }
+    ensures { λ _. ⌜ Rest ⌝ }
     ensures { λ _. ⌜ OnTheBench ⌝ }
     ensures { λ _. ⌜ TrialWitness ⌝ }
     ensures { λ _. ⌜ WholeTrial ⌝ }

@@ -6,12 +6,14 @@ use mathlib.Core.Path.{sym, ap, _∙_}
 use Rattle.machine.specs.Calls.{state}
 use Rattle.controller.specs.declared.state.ByteAnswer.{ByteAnswer}
 use Rattle.trial.specs.Trial.{turned}
-use Rattle.trial.specs.Promises.{PlainStart, FirstEnd, OnTheBench}
+use Rattle.trial.specs.Promises.{Numbers, PlainStart, FirstEnd, Rest, OnTheBench}
 use Rattle.trial.specs.Witness.{TrialWitness, WholeTrial}
 use Rattle.trial.proofs.TrialLaws.{by-word, by-ticks, by-master, by-start, by-run, run-reached, run-is}
 use Rattle.trial.proofs.EndLaws.{first-end}
 use Rattle.trial.proofs.PlainLaws.{plain-start}
 use Rattle.trial.proofs.BenchLaws.{on-the-bench}
+use Rattle.trial.proofs.NumberLaws.{numbers}
+use Rattle.trial.proofs.RestLaws.{rest}
 use Rattle.trial.proofs.WitnessLaws.{trials, whole-trial}
 use Rattle.trial.proofs.temixohuel_trial.Statement.{statement}
 use Rattle.trial.proofs.temixohuel_trial.Tie as tie
@@ -20,8 +22,8 @@ turned-requires : tie.Need-turned-requires
 turned-requires c κs = search needs
 
 -- What speaks of the machine alone.
-promises : PlainStart × (FirstEnd × (OnTheBench × (TrialWitness × WholeTrial)))
-promises = (plain-start, (first-end, (on-the-bench, (trials, whole-trial))))
+promises : Numbers × (PlainStart × (FirstEnd × (Rest × (OnTheBench × (TrialWitness × WholeTrial)))))
+promises = (numbers, (plain-start, (first-end, (rest, (on-the-bench, (trials, whole-trial))))))
 
 returns : tie.Need-returns
 returns c =
