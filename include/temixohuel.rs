@@ -61,8 +61,8 @@ struct PositionAnswer {
     axes: [i64; 5],
 }
 
-/// What a plain start and so many ticks would leave: positions, travels, the tick that ends the move, counted from 1, or
-/// 0 where it is not reached, and 0; or a number, and zeros.
+/// What a plain start and so many ticks would leave: positions, travels, the tick that ends the move, counted from 1,
+/// or 0 where it is not reached, and 0; or a number, and zeros.
 #[repr(C)]
 #[derive(Clone, Copy, Debug, PartialEq, Eq)]
 pub struct TrialAnswer {

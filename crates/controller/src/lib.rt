@@ -1,7 +1,7 @@
 // The blending controller (paper 01): power-on, a received byte with its lent reply buffer, the bytes before a 0D at
 // once, a tick with its input word and its lent reply buffer, readings, and a copy without a half-received line. Only
-// power-on and calls can make one. Each entry's answer is that of the crate `machine`, held as specs/Held.antt says; the
-// only premise is that the controller is reachable. Assumes nothing.
+// power-on and calls can make one. Each entry's answer is that of the crate `machine`, held as specs/Held.antt says;
+// the only premise is that the controller is reachable. Assumes nothing.
 ghost use mathlib.Core.Path.{_≡_};
 ghost use Rattle.block.specs.Block.{frontOf};
 ghost use Rattle.machine.specs.Demand.{Demand3};

@@ -14,10 +14,44 @@ use Rattle.receiver.specs.declared.Heard.the-variants.{Character}
 use Rattle.receiver.specs.Receiver.{Receipt, heardLine, receive}
 use Rattle.machine.specs.State.{Waiting, none, start, Machine, withMove, withFlags, withLine}
 use Rattle.machine.specs.Shares.{whole, gone}
-use Rattle.machine.specs.Ramp.{full, ramped, atSpeed, ended, Ran, quiet, halted, stepped, pulsed, advanced, ramps, tallied, runs}
+use Rattle.machine.specs.Ramp.{
+  full,
+  ramped,
+  atSpeed,
+  ended,
+  Ran,
+  quiet,
+  halted,
+  stepped,
+  pulsed,
+  advanced,
+  ramps,
+  tallied,
+  runs,
+}
 use Rattle.machine.specs.Stops.{takes, limitOrWatch, sensorActive, cause, stopping, marks, stops}
 use Rattle.machine.specs.Commands.{number}
-use Rattle.machine.specs.Steps.{Outcome, untaken, decided, outcomeOf, isShort, tooLarge, answered, byteStep, Tried, untried, failed, began, tryWaiting, runsOut, tries, waits, looks, tickBy, tickStep}
+use Rattle.machine.specs.Steps.{
+  Outcome,
+  untaken,
+  decided,
+  outcomeOf,
+  isShort,
+  tooLarge,
+  answered,
+  byteStep,
+  Tried,
+  untried,
+  failed,
+  began,
+  tryWaiting,
+  runsOut,
+  tries,
+  waits,
+  looks,
+  tickBy,
+  tickStep,
+}
 use Rattle.machine.specs.Calls.{Call, byte, tick, run, state}
 use Rattle.machine.proofs.UnalteredLaws.{does-unaltered, turned-unaltered}
 
@@ -48,7 +82,8 @@ module _ (l : List ℕ) where
       u : ℕ
       u = ramped (m .settings) (m .move)
 
-      when : (t : Bool) → cond {A = Ran} t (halted (withLine m l)) (advanced (withLine m l) u (m .move .phase + u)) .machine
+      when : (t : Bool)
+          → cond {A = Ran} t (halted (withLine m l)) (advanced (withLine m l) u (m .move .phase + u)) .machine
           ≡ withLine (cond {A = Ran} t (halted m) (advanced m u (m .move .phase + u)) .machine) l
       when true = refl
       when false = advanced-aside m u (m .move .phase + u)

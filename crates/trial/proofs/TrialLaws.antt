@@ -89,7 +89,8 @@ module _ (s : ℕ) (h : List Call) (k : ℕ) where
       → held (state s h) ≡ c → Made c (λ m. copy ≡ held (withLine m [])) → Made copy (λ m. g ≡ heldGathered m line)
       → Made (g .controller) (λ m. r ≡ heldByte (byteStep m endByte buffer)) → r ≡ heldByte (startAnswer (state s h) k)
   start-is c copy line g r l e bare gathers answers =
-      answers s typed (ap held (ap (λ (x : List ℕ). state s (bytes x (unlined h))) (sym (ap beforeEnd l ∙ characters k)))
+      answers s typed
+      (ap held (ap (λ (x : List ℕ). state s (bytes x (unlined h))) (sym (ap beforeEnd l ∙ characters k)))
       ∙ after-stretch copy s (unlined h) (ap held (unlined-is s h) ∙ sym (bare s h e)) line g gathers)
       ∙ ap (λ (m : Machine). heldByte (byteStep m endByte buffer)) copied
 

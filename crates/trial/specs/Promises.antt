@@ -46,8 +46,8 @@ pub record Numbers : Type 0 where
 pub record PlainStart : Type 0 where
   -- the numbers that turn it away, in their order: 11 a move runs, then 12 to 17
   pub turned : (m : Machine) (k : ℕ) → k < 5 → startAnswer m k .number ≡ number m (Start k false)
-  -- accepted, a move begins: bits 3 and 6 are cleared, the dwell ends, a stored start is dropped (`begun`), and as after
-  -- every accepted line the watch count is 0
+  -- accepted, a move begins: bits 3 and 6 are cleared, the dwell ends, a stored start is dropped (`begun`), and as
+  -- after every accepted line the watch count is 0
   pub begins : (m : Machine) (k : ℕ) → k < 5 → number m (Start k false) ≡ 0
       → startAnswer m k .machine ≡ withWatch (begun (withLine m []) k) 0
 
@@ -76,8 +76,8 @@ pub record Aside (s : ℕ) (h : List Call) : Type 0 where
   pub calls : List Call
   pub leave : state s calls ≡ withLine (state s h) []
 
--- The start and the ticks done after the calls of g come to what t tells, as demand 3 reads it off the list of all these
--- calls (machine/specs/List.antt).
+-- The start and the ticks done after the calls of g come to what t tells, as demand 3 reads it off the list of all
+-- these calls (machine/specs/List.antt).
 pub record Done (s : ℕ) (g : List Call) (k w n : ℕ) (t : Trial) : Type 0 where
   pub travels : map (λ (x : Travel). x .0) (t .travels) ≡ each (travel s (doing k w n g))
   pub positions : t .positions ≡ each (position s (doing k w n g))

@@ -41,8 +41,8 @@ pub record TrialWitness : Type 0 where
   pub sensed : trialOf (state 0 ready) 0 8192 3 ≡ showing 1 0 0 0 (pos 0) (pos 0) (pos 0)
   pub active : trialOf (state 0 (tick 8192 buffer ∷ ready)) 0 0 3 ≡ turned 13
 
--- The move of one pulse ends in tick 207, though the watch, on from power-on, has counted to 999,990 and a half-received
--- line would set another distance: the start zeroes the one, and the other is aside.
+-- The move of one pulse, and one back of axis 1, ends in tick 207, though the watch, on from power-on, has counted to
+-- 999,990 and a half-received line would set another distance: the start zeroes the one, and the other is aside.
 pub record WholeTrial : Type 0 where
   pub ends : trialOf (withWatch (state 0 (bytes (chars "P0000003") (line "P0180001" ready))) 999990) 0 0 207
       ≡ showing 207 1 1 0 (pos 1) (negsuc 0) (pos 0)

@@ -16,7 +16,8 @@ returns c =
     let p = c .signed-positions .ensures in
     let r = c .before .pre in (
       λ ps q. p (r .switch) (r .history) (r .made)
-          ∙ sym (ap (map positionOf) (q (r .switch) (r .history) (r .made)) ∙ positions-signed (r .switch) (r .history)),
+          ∙ sym (ap (map positionOf) (q (r .switch) (r .history) (r .made))
+          ∙ positions-signed (r .switch) (r .history)),
       λ s h e. p s h e,
     )
 
