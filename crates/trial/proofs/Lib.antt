@@ -1,7 +1,8 @@
 pub mod TrialLaws
 mod EndLaws
 mod PlainLaws
-mod BenchLaws
 mod NumberLaws
 mod RestLaws
+mod RunLaws
+mod BenchLaws
 mod WitnessLaws

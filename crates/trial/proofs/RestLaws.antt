@@ -153,6 +153,23 @@ module _ (m : Machine) (w : ℕ) (e : m .pause .waiting ≡ none) where
 
 -- ---- The trial
 
+-- After an accepted start.
+pub begun-stays : (m : Machine) (k w n : ℕ) → k < 5 → startAnswer m k .number ≡ 0
+    → (endOf (startAnswer m k .machine) w n ≡ 0 → ⊥)
+    → runOf (startAnswer m k .machine) w n
+    ≡ runOf (startAnswer m k .machine) w (endOf (startAnswer m k .machine) w n)
+begun-stays m k w n l z f = by (endOf (startAnswer m k .machine) w n) refl
+  where
+    g : startAnswer m k .machine .pause .waiting ≡ none
+    g =
+        ap (λ (x : Machine). x .pause .waiting)
+        (plain-start .begins m k l (sym (plain-start .turned m k l) ∙ z))
+
+    by : (e : ℕ) → endOf (startAnswer m k .machine) w n ≡ e
+        → runOf (startAnswer m k .machine) w n ≡ runOf (startAnswer m k .machine) w e
+    by zero q = absurd (f q)
+    by (suc i) q = stays (startAnswer m k .machine) w g n i q
+
 stay : (m : Machine) (k w n i : ℕ) → trialOf m k w n .end ≡ suc i → trialOf m k w n ≡ trialOf m k w (suc i)
 stay m k w n i =
     by-bool P (tooLarge w) _ _ (λ a q. absurd (omega (arith, q)))
@@ -172,8 +189,8 @@ stay m k w n i =
         let v = ltb-false 4 k c in
         let l : k < 5 = omega (arith, v) in
         let f = first-end .told (startAnswer m k .machine) w n i q .0 in
-        let g = plain-start .begins m k l (sym (plain-start .turned m k l) ∙ z) in
-        stays (startAnswer m k .machine) w (ap (λ (x : Machine). x .pause .waiting) g) n i q
+        begun-stays m k w n l z (λ y. absurd (omega (arith, q, y)))
+        ∙ ap (runOf (startAnswer m k .machine) w) q
         ∙ by-run m k w (suc i) (omega (arith, p)) (omega (arith, f, u)) (omega (arith, v)) z
 
 pub rest : Rest

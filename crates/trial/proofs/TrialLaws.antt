@@ -38,15 +38,15 @@ module _ (c : Controller) (w : ℕ) where
   none-ran s h e = λ i. record { controller = sym e i; end = 0 }
 
   -- They are calls of a list.
-  pub ran-held : (s : ℕ) (h : List Call) → held (state s h) ≡ c → (n : ℕ) (r : Ticked) → Ran n r
+  pub ran-held : (s : ℕ) (h : List Call) (n : ℕ) (r : Ticked) → r ≡ ranOf (state s h) w n
       → held (state s (ticks n w h)) ≡ r .controller
-  ran-held s h e n r p = ap held (ticks-on s w h n) ∙ sym (ap (λ (x : Ticked). x .controller) (p s h e))
+  ran-held s h n r p = ap held (ticks-on s w h n) ∙ sym (ap (λ (x : Ticked). x .controller) p)
 
   pub ran-reached : (n : ℕ) (r : Ticked) → Reachable c → Ran n r → Reachable (r .controller)
   ran-reached n r q p = record {
     switch = q .switch;
     history = ticks n w (q .history);
-    made = ran-held (q .switch) (q .history) (q .made) n r p;
+    made = ran-held (q .switch) (q .history) n r (p (q .switch) (q .history) (q .made));
   }
 
   pub next-ran : (n : ℕ) (r next : Ticked) → Ran n r
@@ -54,7 +54,7 @@ module _ (c : Controller) (w : ℕ) where
   unfolding run endOf
   next-ran n r next p q s h e =
       rw (add-one n)
-      (q s (ticks n w h) (ran-held s h e n r p)
+      (q s (ticks n w h) (ran-held s h n r (p s h e))
       ∙ (λ i. tickedOf (p s h e i .end) (add-one n i) (tickStep (ticks-on s w h n i) w buffer)))
 
 -- ---- The start
@@ -112,21 +112,3 @@ module _ (m : Machine) (k w n : ℕ) where
 
     pub by-run : startAnswer m k .number ≡ 0 → runOf (startAnswer m k .machine) w n ≡ trialOf m k w n
     by-run z = on-ge _ _ _ _ _ p (on-ge _ _ _ _ _ q (on-ge _ _ _ _ _ r (on-eq _ _ _ _ _ z refl)))
-
--- ---- After the start
-
-module _ (c : Controller) (k w n : ℕ) (r : ByteAnswer) (e : Made c (λ m. r ≡ heldByte (startAnswer m k))) where
-  start-held : (s : ℕ) (h : List Call) → held (state s h) ≡ c → held (state s (startCalls s h k)) ≡ r .controller
-  start-held s h q = ap held (start-state s h k) ∙ sym (ap (λ (x : ByteAnswer). x .controller) (e s h q))
-
-  module _ (ran : Ticked) (t : Ran (r .controller) w n ran) where
-    pub run-reached : Reachable (r .controller) → Reachable (ran .controller)
-    run-reached q = ran-reached (r .controller) w n ran q t
-
-    pub run-is : (x : Trial) → Made (ran .controller) (λ m. x ≡ shown m (ran .end))
-        → Made c (λ m. x ≡ runOf (startAnswer m k .machine) w n)
-    run-is x p s h q =
-        let g = startCalls s h k in
-        p s (ticks n w g) (ran-held (r .controller) w s g (start-held s h q) n ran t)
-        ∙ ((λ i. shown (ticks-on s w g n i) (t s g (start-held s h q) i .end))
-        ∙ ap (λ (m : Machine). runOf m w n) (start-state s h k))

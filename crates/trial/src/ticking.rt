@@ -1,12 +1,12 @@
 // So many ticks with one input word, and the tick in which the move ends (paper 02, 5/14). Assumes nothing.
-ghost use Prim.Native.Nat.{_≤_};
+ghost use Prim.Native.Nat.{_≤_, _<_};
 ghost use mathlib.Core.Path.{_≡_};
 ghost use lib.ListN.{length};
 ghost use Rattle.machine.specs.Steps.{tickStep};
 ghost use Rattle.machine.specs.Calls.{buffer};
 ghost use Rattle.controller.specs.Reach.{Reachable, Made};
 ghost use Rattle.trial.specs.Trial.{firstOf};
-ghost use Rattle.trial.specs.Ticking.{tickedOf, ranOf};
+ghost use Rattle.trial.specs.Ticking.{tickedOf, leftOf, ranOf, lastOf};
 use block::REPLY_ROOM;
 use controller::Controller;
 
@@ -42,21 +42,35 @@ fn tick(was: Ticked, buf: &mut [u8], word: u32, n: u32) -> Ticked
     Ticked { controller, end }
 }
 
-// So many ticks. They are lent a buffer of their own, without which each would be turned away by 2 (3/14).
+// How many ticks are left behind one: none once the move has ended.
+fn left_behind(left: u32, end: u32) -> u32
+    requires { ⌜ 0 < left ⌝ }
+    ensures { λ r. ⌜ r ≡ leftOf left end ⌝ }
+{
+    if end == 0 {
+        return left - 1;
+    }
+    0
+}
+
+// So many ticks, or as many as it takes to the end: those behind it alter nothing that is shown (`Rest`). They are lent
+// a buffer of their own, without which each would be turned away by 2 (3/14).
 pub(crate) fn run(c: Controller, word: u32, count: u32) -> Ticked
     requires { ⌜ Reachable c ⌝ }
-    ensures { λ r. ⌜ Made c (λ m. r ≡ ranOf m word count) ⌝ }
+    ensures { λ r. ⌜ Made c (λ m. r ≡ ranOf m word (lastOf m word count)) ⌝ }
 {
     let mut buf = [0u8; REPLY_ROOM];
     let mut ran = Ticked {
         controller: c,
         end: 0,
     };
-    let mut i = 0;
-    while i < count {
-        let next = tick(ran, &mut buf, word, i + 1);
+    let mut n = 0;
+    let mut left = count;
+    while 0 < left {
+        n += 1;
+        let next = tick(ran, &mut buf, word, n);
+        left = left_behind(left, next.end);
         ran = next;
-        i += 1;
     }
     ran
 }

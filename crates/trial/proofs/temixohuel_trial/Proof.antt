@@ -8,7 +8,8 @@ use Rattle.controller.specs.declared.state.ByteAnswer.{ByteAnswer}
 use Rattle.trial.specs.Trial.{turned}
 use Rattle.trial.specs.Promises.{Numbers, PlainStart, FirstEnd, Rest, OnTheBench}
 use Rattle.trial.specs.Witness.{TrialWitness, WholeTrial}
-use Rattle.trial.proofs.TrialLaws.{by-word, by-ticks, by-master, by-start, by-run, run-reached, run-is}
+use Rattle.trial.proofs.TrialLaws.{by-word, by-ticks, by-master, by-start, by-run}
+use Rattle.trial.proofs.RunLaws.{run-reached, run-is}
 use Rattle.trial.proofs.EndLaws.{first-end}
 use Rattle.trial.proofs.PlainLaws.{plain-start}
 use Rattle.trial.proofs.BenchLaws.{on-the-bench}
@@ -107,10 +108,11 @@ returns-5 c =
     let b = r .before .before in
     let t = b .before .before in
     let o = t .before in
-    let a = o .before .before .before .args in (
+    let a = o .before .before .before .args in
+    let l = master-fits o in (
       λ s h e.
           run-is (a .c) (a .master) (a .word) (a .ticks) (t .start .result) (t .start .ensures .0) (r .run .result)
-          (r .run .ensures) (c .shown .result) (c .shown .ensures) s h e
+          (r .run .ensures) (c .shown .result) (c .shown .ensures) (omega (arith, l)) (omega (arith, b .if4 .left)) s h e
           ∙ by-run (state s h) (a .master) (a .word) (a .ticks) (word-fits o) (ticks-fit o) (master-fits o)
           (sym (ap (λ (x : ByteAnswer). x .number) (t .start .ensures .0 s h e)) ∙ omega (arith, b .if4 .left)),
       promises,
