@@ -7,6 +7,7 @@ An example that fits a line of crates/wording/specs/Page.antt must stand there t
 Fixed words: the table of sentences, the words and forms in the tables of words, and what the text says of a status must
 be those of crates/sentences/specs/Sentences.antt, which the desk is proved to say.
 Recipe: its table in README.md has the lines of docs/recipe.txt and docs/recipe.out side by side.
+Screen: the one that docs/PROTOCOL.md and README.md show stands in docs/trial.out.
 Exit 1, naming what is not so.
 """
 import re
@@ -109,6 +110,15 @@ def untold():
         yield "the recipe in README.md is not docs/recipe.txt and docs/recipe.out"
 
 
+def unshown():
+    """Where a page shows no screen, or one that the stored trials have not."""
+    stored = (ROOT / "docs/trial.out").read_text()
+    for page in ("README.md", "docs/PROTOCOL.md"):
+        shown = re.search(r"(?:^    (?:master|wine) .*\n){6}", (ROOT / page).read_text(encoding="utf-8"), re.M)
+        if not shown or shown.group().replace("    ", "") not in stored:
+            yield f"the screen in {page} is not one of docs/trial.out"
+
+
 def forms(parts):
     """The forms of each word, in the order in which the words first appear."""
     found = {}
@@ -157,7 +167,7 @@ def differing(told):
 def main():
     parts = blocks((ROOT / "docs/PROTOCOL.md").read_text(encoding="utf-8"))
     shown, told = list(examples(parts)), fixed(parts)
-    wrong = [*unanswered(shown), *unproved(shown), *differing(told), *untold()]
+    wrong = [*unanswered(shown), *unproved(shown), *differing(told), *untold(), *unshown()]
     counts = ", ".join(f"{len(rows)} {name}" for name, rows in told.items())
     total = f"words: {len(shown)} examples, {counts}, {len(wrong)} wrong"
     print("\n".join([f"From words: {w}" for w in wrong] + [total]))

@@ -142,7 +142,7 @@ uint32_t temixohuel_slope(temixohuel_controller c);
 
 /* What a plain start with this master (0 to 4), a half-received line aside, and so many ticks (0 to 1,000,000), each
    with this input word, would leave. Nothing is done: c is as it was, a W line's block still to come. The start reads
-   the inputs of the last tick. It is in an archive of its own, libtrial.a; 1,000,000 ticks take some 3 ms. */
+   the inputs of the last tick. It is in an archive of its own, libtrial.a; 1,000,000 ticks take 3 to 5 ms. */
 temixohuel_trial_answer temixohuel_trial(temixohuel_controller c, uint32_t master, uint32_t word, uint32_t ticks);
 
 /* An entry written at the place at of a journal; the bytes before and after it keep their values. 24 is before 22. */
