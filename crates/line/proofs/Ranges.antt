@@ -44,21 +44,23 @@ cases : {P : Type 0} (k n : ℕ) → (k ≡ n → P) → ((k ≡ n → ⊥) → 
 cases {P} k n p q = by-eq (λ (_ : Bool). P) k n true false p q
 
 -- A fact about any number, by whether it is the code of an order that names nothing else.
-pub by-code : (P : ℕ → Type 0) → P 9 → P 10 → P 11
-    → ((k : ℕ) → eqb k 9 ≡ false → eqb k 10 ≡ false → eqb k 11 ≡ false → P k) → (k : ℕ) → P k
-by-code P p9 p10 p11 p k =
+pub by-code : (P : ℕ → Type 0) → P 9 → P 10 → P 11 → P 12
+    → ((k : ℕ) → eqb k 9 ≡ false → eqb k 10 ≡ false → eqb k 11 ≡ false → eqb k 12 ≡ false → P k) → (k : ℕ) → P k
+by-code P p9 p10 p11 p12 p k =
     cases k 9 (λ q. rw q p9)
     λ a. cases k 10 (λ q. rw q p10)
     λ b. cases k 11 (λ q. rw q p11)
-    λ c. p k (ne-eqb k 9 a) (ne-eqb k 10 b) (ne-eqb k 11 c)
+    λ c. cases k 12 (λ q. rw q p12)
+    λ d. p k (ne-eqb k 9 a) (ne-eqb k 10 b) (ne-eqb k 11 c) (ne-eqb k 12 d)
 
 -- A fact about an order that names nothing else, by its code.
-pub by-order : (P : ℕ → Type 0) → P 9 → P 10 → P 11 → (k : ℕ) → fits (C.Order k) ≡ true → P k
-by-order P p9 p10 p11 k e =
-    let t = within k 9 11 e in
+pub by-order : (P : ℕ → Type 0) → P 9 → P 10 → P 11 → P 12 → (k : ℕ) → fits (C.Order k) ≡ true → P k
+by-order P p9 p10 p11 p12 k e =
+    let t = within k 9 12 e in
     cases k 9 (λ q. rw q p9)
     λ n. cases k 10 (λ q. rw q p10)
-    λ m. let q : k ≡ 11 = omega (arith, t .0, t .1, n, m) in rw q p11
+    λ m. cases k 11 (λ q. rw q p11)
+    λ l. let q : k ≡ 12 = omega (arith, t .0, t .1, n, m, l) in rw q p12
 
 -- A fact about a setting in range, by its code.
 pub by-setting : (P : ℕ → ℕ → Type 0) (code v : ℕ)

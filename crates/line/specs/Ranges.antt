@@ -52,9 +52,9 @@ readingFits R.Inputs = true
 abbrev pub distanceFits : ℕ → ℕ → Bool
 distanceFits k d = isAxis k && ltb d topBit
 
--- The codes of the orders that name nothing else: 9 stop, A clear bit 2, B position reset.
+-- The codes of the orders that name nothing else: 9 stop, A clear bit 2, B position reset, C carry on (paper 02, 6/14).
 abbrev pub isOrder : ℕ → Bool
-isOrder code = isWithin code 9 11
+isOrder code = isWithin code 9 12
 
 -- A command's values: a distance, a setting, a reading and an order as above, a master is one of the five axes, the
 -- outputs have 24 bits.

@@ -34,7 +34,8 @@ pub enum Command {
     Set { code: u8, value: u32 },
     // Q 8: at once, or after the dwell.
     Start { master: u8, waits: bool },
-    // An order that names nothing else, by its code: Q 9 stop, A clear status bit 2, B position reset.
+    // An order that names nothing else, by its code: Q 9 stop, A clear status bit 2, B position reset, C carry on
+    // (paper 02, 6/14).
     Order(u8),
     // W with six digits: the general outputs.
     Outputs(u32),
@@ -117,7 +118,7 @@ fn distance_fits(axis: u8, length: u32) -> bool
 pub fn is_order(code: u32) -> bool
     ensures { λ r. ⌜ r ≡ isOrder code ⌝ }
 {
-    within(code, 9, 11)
+    within(code, 9, 12)
 }
 
 // Whether each value of a command is in its range.

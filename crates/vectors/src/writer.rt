@@ -15,7 +15,7 @@ pub(crate) const ROOM: usize = 64;
 pub(crate) const BEFORE: u8 = 90;
 
 // The highest number of a command in the page's table.
-const LAST: u8 = 17;
+const LAST: u8 = 18;
 
 // A command by its number in the page's table; the last for each number past it.
 fn command_of(number: u8, axis: u8, flag: bool, value: u32) -> Command {
@@ -47,7 +47,8 @@ fn command_of(number: u8, axis: u8, flag: bool, value: u32) -> Command {
         14 => Command::Read(Reading::Position(axis)),
         15 => Command::Read(Reading::Everything),
         16 => Command::Read(Reading::Inputs),
-        _ => Command::Outputs(value),
+        17 => Command::Outputs(value),
+        _ => Command::Order(12),
     }
 }
 
