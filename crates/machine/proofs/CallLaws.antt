@@ -30,6 +30,7 @@ use Rattle.machine.proofs.LookLaws.{
   start-travel,
   looked-moving,
   start-stopping,
+  start-replanned,
 }
 
 falls : (x y : Bool) → (x ≡ false → y ≡ false) → y ≡ x && y
@@ -55,6 +56,8 @@ called-run m l s a S P z lk st rn = record {
   positive = λ q. subst (λ (n : ℕ). 0 < n) (sym size) (lk .positive q);
   goes = falls (begins S || m .move .moving) (a .move .moving) (λ q. rn .still (moving ∙ q));
   stopped = λ q. rn .stopping q ∙ stop;
+  replanned = rn .replanned ∙ (st .replanned
+      ∙ (ap (λ (v : Move). v .replanned) (lk .move) ∙ start-replanned S (m .next) (m .move)));
   idle = λ p q k h. rn .count k h
       ∙ (ap (λ (y : ℤ). s .move .travel k + isPulse y) (rn .rests (moving ∙ neither p q) k)
       ∙ (sym (no-pulse (s .move .travel k)) ∙ (travel k ∙ ap (λ (b : Bool). cond b 0 (m .move .travel k)) p)));

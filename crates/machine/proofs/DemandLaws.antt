@@ -10,7 +10,7 @@ use Rattle.laws.proofs.Tests.{both}
 use Rattle.machine.specs.Shares as shares
 use Rattle.laws.specs.Axes.{directed}
 use Rattle.machine.specs.Calls.{Call, after, run, state}
-use Rattle.machine.specs.Roles.{moves, isTick, begins}
+use Rattle.machine.specs.Roles.{lineOf, carriesBy, moves, isTick, begins}
 use Rattle.machine.specs.List.{
   effect,
   started,
@@ -71,6 +71,11 @@ answer-holds s (x ∷ h) k l =
       sign = λ q. c .sign k l q ∙ ap (λ (b : Bool). directed b 1) (told s (x ∷ h) .minuses k);
     }
 
+-- A start or a move under way is a departure or a move under way.
+or-more : (a b c : Bool) → b || c ≡ true → (a || b) || c ≡ true
+or-more true b c e = refl
+or-more false b c e = e
+
 ending-holds : (s : ℕ) (h : List Call) (k : ℕ) → k < 5 → ends s h ≡ true → stopBegun s h ≡ false → Ended s h k
 unfolding latest run ends stopBegun
 ending-holds s [] k l e f = true-false false e refl
@@ -80,7 +85,7 @@ ending-holds s (x ∷ h) k l e f =
     let p = both (isTick x) _ e in
     let q = both (begins (effect s h x) || goesOn s h) _ (p .1) in
     let w = whole-end s h x t
-    ((λ i. begins (effect s h x) || t .goes i) ∙ q .0)
+    (or-more (carriesBy (lineOf (state s h) x)) _ _ ((λ i. begins (effect s h x) || t .goes i) ∙ q .0))
     (sym (status-moving (after (state s h) x)) ∙ not-true (moves (after (state s h) x)) (q .1)) f in
     record {
       full = sym (same-gone s (x ∷ h) u) ∙ (w .reached ∙ same-whole s (x ∷ h) u);

@@ -25,7 +25,11 @@ fits-power s =
       slope = omega arith;
       dwell = omega arith;
     }) (λ k h. omega arith) (record {
-      good = record { axis = λ k h. share-none 0 0 (omega arith); under = λ q. true-false false q refl };
+      good = record {
+        axis = λ k h. share-none 0 0 (omega arith);
+        under = λ q. true-false false q refl;
+        fixed = λ q. refl;
+      };
       plan = λ k h. omega arith;
       master = omega arith;
       speed = omega arith;

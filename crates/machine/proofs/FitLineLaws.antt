@@ -5,6 +5,7 @@ use mathlib.Core.List.{List}
 use mathlib.Core.Path.{_≡_, refl, subst}
 use native.Mathlib.Omega.{arith}
 use borrow.Author.Tests.{leb-true, eqb-true}
+use Rattle.laws.proofs.Tests.{true-false, and-true}
 use lib.Dec.{ltb, leb, eqb}
 use lib.ListN.{length}
 use Rattle.laws.proofs.Pick.{by-bool, by-eq}
@@ -19,15 +20,15 @@ use Rattle.line.specs.Fits.{CommandFits, JudgedFits}
 use Rattle.line.proofs.Ranges.{within, axis, distance, by-code}
 use Rattle.line.proofs.Fits.{judge-fits}
 use Rattle.receiver.specs.Receiver.{Receipt}
-use Rattle.machine.specs.State.{Machine, none, withMove, withSettings, withWatch, withFlags}
+use Rattle.machine.specs.State.{Move, Machine, none, withMove, withSettings, withWatch, withFlags}
 use Rattle.machine.specs.Stops.{stopping, marks}
-use Rattle.machine.specs.Starts.{startNumber, begun, notes}
-use Rattle.machine.specs.Commands.{number, does, stores, drops, keepsStart, obeys}
+use Rattle.machine.specs.Starts.{startNumber, begun, carried, notes}
+use Rattle.machine.specs.Commands.{number, does, stores, drops, keepsStart, replans, obeys}
 use Rattle.machine.specs.Steps.{Outcome, refused, decided, outcomeOf, outcome, answered, heardBy}
 use Rattle.machine.proofs.PositionLaws.{Room}
-use Rattle.machine.proofs.ReadyLaws.{passed, ready}
-use Rattle.machine.proofs.Fits.{SettingsFit, PauseFits, Fits, fits-of, fits-same}
-use Rattle.machine.proofs.FitStageLaws.{fits-begun, fits-stopping}
+use Rattle.machine.proofs.ReadyLaws.{passed, ready, resumable}
+use Rattle.machine.proofs.Fits.{SettingsFit, MoveFits, PauseFits, Fits, fits-of, fits-same}
+use Rattle.machine.proofs.FitStageLaws.{fits-begun, fits-carried, fits-stopping}
 
 -- A machine that differs in its settings.
 fits-set : (m a : Machine) → Fits m → SettingsFit (a .settings) → a .next ≡ m .next → a .move ≡ m .move
@@ -81,26 +82,55 @@ fits-stop m b f = when (m .move .moving)
     when true = fits-stopping m _ f refl refl refl refl dropped
     when false = fits-of _ (f .settings) (f .next) (f .move) (f .places) dropped
 
-fits-order : (m : Machine) (b code : ℕ) → Fits m → Fits (withWatch (obeys (heardBy m b) code) 0)
+fits-carrying : (m : Machine) (b : ℕ) → Fits m → number m (C.Order 12) ≡ 0
+    → Fits (withWatch (obeys (heardBy m b) 12) 0)
+fits-carrying m b f e =
+    fits-same (carried m) _
+    (fits-carried m f (resumable m (passed (m .move .moving && true) 11 _ (omega arith) e .1)))
+    refl refl refl refl refl
+
+fits-order : (m : Machine) (b code : ℕ) → Fits m → number m (C.Order code) ≡ 0
+    → Fits (withWatch (obeys (heardBy m b) code) 0)
 fits-order m b code f =
-    by-code (λ (k : ℕ). Fits (withWatch (obeys (heardBy m b) k) 0)) (fits-stop m b f)
-    (fits-same m _ f refl refl refl refl refl)
-    (fits-of _ (f .settings) (f .next) (f .move) (record {
+    by-code (λ (k : ℕ). number m (C.Order k) ≡ 0 → Fits (withWatch (obeys (heardBy m b) k) 0)) (λ e. fits-stop m b f)
+    (λ e. fits-same m _ f refl refl refl refl refl)
+    (λ e. fits-of _ (f .settings) (f .next) (f .move) (record {
       inside = λ k l. refl;
       room = λ q k l. reset-room (m .move .plan .minus k) (m .move .plan .distance k) (m .move .travel k)
           (f .move .plan k l);
     }) (f .pause))
-    (λ k p q r. rw (p, q, r) (fits-same m _ f refl refl refl refl refl)) code
+    (fits-carrying m b f)
+    (λ k p q r t e. rw (p, q, r, t) (fits-same m _ f refl refl refl refl refl)) code
+
+-- A distance line at rest.
+fits-replans : (v : Move) → MoveFits v → v .moving ≡ false → MoveFits (replans v)
+fits-replans v f e = record {
+  good = record {
+    axis = f .good .axis;
+    under = f .good .under;
+    fixed = λ q. true-false (v .moving) q e;
+  };
+  plan = f .plan;
+  master = f .master;
+  speed = f .speed;
+  phase = f .phase;
+  ticks = f .ticks;
+  within = f .within;
+}
 
 pub fits-does : (m : Machine) (b : ℕ) (c : Command) → Fits m → CommandFits c → number m c ≡ 0
     → Fits (withWatch (does (heardBy m b) c) 0)
 fits-does m b (C.Distance k s d) f h e =
     fits-of _ (f .settings)
     (λ j l. by-bool (λ (x : ℕ). x ≤ 524287) (eqb j k) _ _ (λ q. let r = distance k s d h .1 in omega (arith, r))
-    (λ q. f .next j l)) (f .move) (f .places) (f .pause)
+    (λ q. f .next j l)) (fits-replans (m .move) (f .move) still)
+    (record { inside = f .places .inside; room = f .places .room }) (f .pause)
+  where
+    still : m .move .moving ≡ false
+    still = and-true (m .move .moving) (passed (m .move .moving && true) 11 _ (omega arith) e .0)
 fits-does m b (C.Set code v) f h e = fits-setting m b code v f h
 fits-does m b (C.Start k w) f h e = fits-starting m b k w f (axis k h) e
-fits-does m b (C.Order code) f h e = fits-order m b code f
+fits-does m b (C.Order code) f h e = fits-order m b code f e
 fits-does m b (C.Outputs v) f h e = fits-same m _ f refl refl refl refl refl
 fits-does m b (C.Read r) f h e = fits-same m _ f refl refl refl refl refl
 

@@ -169,7 +169,7 @@ module _ (m : Machine) (f : Fits m) (e : m .move .moving ≡ true) where
   fits-advanced u grown h d l =
       by-lt (λ (r : Ran). Fits (r .machine)) grown full _ _
       (λ q. fits-of _ (f .settings) (f .next) (record {
-        good = record { axis = f .move .good .axis; under = f .move .good .under };
+        good = record { axis = f .move .good .axis; under = f .move .good .under; fixed = f .move .good .fixed };
         plan = f .move .plan;
         master = f .move .master;
         speed = h;
@@ -184,7 +184,11 @@ fits-runs m f =
     by-bool (λ (r : Ran). Fits (r .machine)) (not (m .move .moving)) _ _ (λ q. f)
     (λ q. by-bool (λ (r : Ran). Fits (r .machine)) (m .move .stopping && leb (m .move .speed) (m .settings .slope)) _ _
     (λ s. fits-ended (tallied m) (f .settings) (f .next)
-    (record { axis = f .move .good .axis; under = λ r. true-false false r refl }) (f .move .plan) (f .move .master)
+    (record {
+      axis = f .move .good .axis;
+      under = λ r. true-false false r refl;
+      fixed = λ r. true-false false r refl;
+    }) (f .move .plan) (f .move .master)
     (f .move .within) (f .places .inside) (f .pause))
     (λ s. fits-advanced m f (not-false (m .move .moving) q) (ramped (m .settings) (m .move))
     (m .move .phase + ramped (m .settings) (m .move))

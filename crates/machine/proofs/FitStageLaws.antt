@@ -1,4 +1,4 @@
--- A start, and the stages of a tick before its pulses, keep a machine in range. Assumes nothing.
+-- A start, a carry-on, and the stages of a tick before its pulses, keep a machine in range. Assumes nothing.
 use Prim.Native.Nat.{ℕ, _-_, _<_}
 use mathlib.Core.Bool.{Bool, true, false, cond}
 use mathlib.Core.Path.{_≡_, refl, sym, subst, _∙_}
@@ -7,13 +7,13 @@ use borrow.Author.Tests.{eqb-true}
 use lib.Dec.{eqb}
 use Rattle.laws.proofs.Pick.{by-bool}
 use Rattle.reply.specs.Reply.{bias}
-use Rattle.machine.specs.State.{Move, Machine, Waiting, none, start, withMove, withPause}
+use Rattle.machine.specs.State.{Plan, Move, Machine, Waiting, none, start, withMove, withPause}
 use Rattle.machine.specs.Stops.{takes, cause, stops, stopping}
-use Rattle.machine.specs.Starts.{startNumber, begun}
+use Rattle.machine.specs.Starts.{startNumber, begun, openPlan, carried}
 use Rattle.machine.specs.Steps.{Tried, failed, began, tryStart, tryWaiting, tries, waits, looks}
 use Rattle.machine.proofs.Runs.{Good}
 use Rattle.machine.proofs.PositionLaws.{Room, leaves-is, room-of}
-use Rattle.machine.proofs.ReadyLaws.{Ready, ready, good-new}
+use Rattle.machine.proofs.ReadyLaws.{Ready, ready, good-new, Resumable, good-onwards}
 use Rattle.machine.proofs.Fits.{WaitingFits, PauseFits, Fits, fits-of, fits-same}
 
 no-travel : (d : ℕ) → d - 0 ≡ d
@@ -37,6 +37,27 @@ fits-begun m k f h r =
         subst (Room (m .next .minus j) (bias (m .position j))) (sym (no-travel (m .next .distance j)))
         (room-of (m .next .minus j) (bias (m .position j)) (m .next .distance j)
         (leaves-is (m .next .minus j) (m .position j) (m .next .distance j) (f .places .inside j l) ∙ r .inside j l))
+
+pub fits-carried : (m : Machine) → Fits m → Resumable m → Fits (carried m)
+fits-carried m f r =
+    fits-of _ (f .settings) (f .next) (record {
+      good = good-onwards m (f .move .good) r;
+      plan = f .move .plan;
+      master = f .move .master;
+      speed = omega arith;
+      phase = omega arith;
+      ticks = λ q. omega arith;
+      within = f .move .within;
+    }) (record { inside = f .places .inside; room = λ q j l. left j l })
+    (record { left = omega arith; waiting = omega arith })
+  where
+    p : Plan
+    p = openPlan m
+
+    left : (j : ℕ) → j < 5 → Room (p .minus j) (bias (m .position j)) (p .distance j)
+    left j l =
+        room-of (p .minus j) (bias (m .position j)) (p .distance j)
+        (leaves-is (p .minus j) (m .position j) (p .distance j) (f .places .inside j l) ∙ r .inside j l)
 
 -- ---- The tick, stage by stage
 
@@ -68,7 +89,7 @@ fits-waits m f =
     (λ e. fits-waiting m none f (omega arith))
 
 good-stopping : (v : Move) → Good v → Good (stopping v)
-good-stopping v g = record { axis = g .axis; under = g .under }
+good-stopping v g = record { axis = g .axis; under = g .under; fixed = g .fixed }
 
 pub fits-stopping : (m a : Machine) → Fits m → a .settings ≡ m .settings → a .next ≡ m .next
     → a .move ≡ stopping (m .move) → a .position ≡ m .position → PauseFits (a .pause) → Fits a

@@ -15,7 +15,7 @@ use Rattle.machine.specs.Entries.{noEntry, entry, entryOf}
 use Rattle.machine.specs.Steps.{tickStep}
 use Rattle.machine.specs.Calls.{Call, byte, tick, after, run, state}
 use Rattle.machine.specs.Roles.{begins, isTaken, takesEffect}
-use Rattle.machine.specs.List.{effect, master, counted, ends}
+use Rattle.machine.specs.List.{effect, departure, master, counted, ends}
 use Rattle.machine.specs.Journal.{ticksSince, moved, moveEntry}
 use Rattle.machine.proofs.BitLaws.{status-moving}
 use Rattle.machine.proofs.EntryLaws.{Entered, entered-tick}
@@ -43,8 +43,8 @@ entered-on s h w d =
     (told s h .pause) (entered-tick (state s h) w d (told s h .good))
 
 -- What a call adds to them.
-pub adds : (s : ℕ) (h : List Call) (x : Call) → begins (effect s h x) || state s h .move .moving ≡ true
-    → after (state s h) x .move .ticks ≡ cond (begins (effect s h x)) 0 (state s h .move .ticks) + weight (isTaken x) 1
+pub adds : (s : ℕ) (h : List Call) (x : Call) → departure s h x || state s h .move .moving ≡ true
+    → after (state s h) x .move .ticks ≡ cond (departure s h x) 0 (state s h .move .ticks) + weight (isTaken x) 1
 adds s h (byte b buffer) q = called-on s h (byte b buffer) (told s h) .ticks refl ∙ omega arith
 adds s h (tick w d) q = entered-on s h w d .ticks q
 
@@ -54,14 +54,14 @@ unfolding run ticksSince
 ticks-run s [] r = true-false false r refl
 ticks-run s (x ∷ h) r =
     let q = both _ _ (sym (called-on s h x (told s h) .goes) ∙ r) .0 in
-    adds s h x q ∙ next-ticks (begins (effect s h x)) (state s h .move .moving) _ _ _ q (ticks-run s h)
+    adds s h x q ∙ next-ticks (departure s h x) (state s h .move .moving) _ _ _ q (ticks-run s h)
 
 -- So are those of a move that a call ends.
-pub ticks-next : (s : ℕ) (h : List Call) (x : Call) → begins (effect s h x) || state s h .move .moving ≡ true
+pub ticks-next : (s : ℕ) (h : List Call) (x : Call) → departure s h x || state s h .move .moving ≡ true
     → after (state s h) x .move .ticks ≡ ticksSince s (x ∷ h)
 unfolding ticksSince
 ticks-next s h x q =
-    adds s h x q ∙ next-ticks (begins (effect s h x)) (state s h .move .moving) _ _ _ q (ticks-run s h)
+    adds s h x q ∙ next-ticks (departure s h x) (state s h .move .moving) _ _ _ q (ticks-run s h)
 
 -- ---- The entry
 
@@ -76,21 +76,24 @@ ending-is s h w d i =
     (begins (effect s h (tick w d)) || told s h .goes i)
     && not (sym (status-moving (after (state s h) (tick w d))) i)
 
+-- m is the number of the master's answers that are not 0.
+pub counted-gone : (s : ℕ) (h : List Call) → shares.gone (state s h .move) ≡ counted s h (master s h)
+counted-gone s h =
+    let u = told s h in
+    ap (λ (j : ℕ). state s h .move .travel j) (u .masters)
+    ∙ u .counts (master s h) (subst (λ (j : ℕ). j < 5) (u .masters) (in-range s h .move .master))
+
 -- A list's entry is that of its machine, if the ticks are.
 entry-is : (s : ℕ) (h : List Call) → state s h .move .ticks ≡ ticksSince s h → entryOf (state s h .move) ≡ moveEntry s h
 entry-is s h t i = record {
   ticks = t i;
-  cause = cond (eqb (gone i) (same-whole s h u i)) 0 1;
+  cause = cond (eqb (counted-gone s h i) (same-whole s h u i)) 0 1;
   travels = way 0 (omega arith) i ∷ way 1 (omega arith) i ∷ way 2 (omega arith) i ∷ way 3 (omega arith) i
       ∷ way 4 (omega arith) i ∷ [];
 }
   where
     u : Told s h
     u = told s h
-
-    gone : shares.gone (state s h .move) ≡ counted s h (master s h)
-    gone = ap (λ (j : ℕ). state s h .move .travel j) (u .masters)
-        ∙ u .counts (master s h) (subst (λ (j : ℕ). j < 5) (u .masters) (in-range s h .move .master))
 
     way : (k : ℕ) → k < 5 → directed (state s h .move .plan .minus k) (state s h .move .travel k) ≡ moved s h k
     way k l = (λ j. directed (u .minuses k j) (u .counts k l j)) ∙ sym (moved-is s h k l)

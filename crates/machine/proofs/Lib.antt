@@ -28,6 +28,8 @@ pub mod DemandLaws
 pub mod MovedLaws
 pub mod JournalLaws
 pub mod TakenLaws
+pub mod ShortLaws
+pub mod CarryLaws
 pub mod WatchStageLaws
 pub mod WatchLaws
 pub mod SettleStageLaws

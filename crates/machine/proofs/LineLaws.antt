@@ -21,8 +21,15 @@ use Rattle.machine.proofs.BitLaws.{status-moving}
 use Rattle.machine.proofs.Outcomes.{by-outcome}
 use Rattle.machine.proofs.Runs.{Good}
 use Rattle.machine.proofs.CalledLaws.{Called, called-same, called-settled}
-use Rattle.machine.proofs.ReadyLaws.{passed, ready}
-use Rattle.machine.proofs.EffectLaws.{called-start, called-quiet, called-distance, called-reset, called-stop}
+use Rattle.machine.proofs.ReadyLaws.{passed, ready, resumable}
+use Rattle.machine.proofs.EffectLaws.{
+  called-start,
+  called-quiet,
+  called-distance,
+  called-reset,
+  called-stop,
+  called-carry,
+}
 
 -- An accepted line, whose command leaves the machine a.
 abbrev Accepts : Machine → Command → Machine → Type 0
@@ -37,7 +44,8 @@ called-setting m b code v g = when (eqb code 10)
         → Called m (cond t (dwellLine v) other) (startBy (m .pause) (cond t (dwellLine v) other))
         (stopBy m (cond t (dwellLine v) other)) false (λ k. pos 0) (withWatch (does (heardBy m b) (C.Set code v)) 0)
     when true =
-        called-quiet m _ (dwellLine v) (record { distance = λ j n. refl; minus = λ j b. refl; reset = refl }) g
+        called-quiet m _ (dwellLine v)
+        (record { distance = λ j n. refl; minus = λ j b. refl; reset = refl; set = refl; carry = refl }) g
         (record { next = refl; move = refl; position = refl })
     when false = called-same m _ false g (record { next = refl; move = refl; position = refl })
 
@@ -54,7 +62,7 @@ called-starting m b k w g e = when (stores m w) refl
         (begun (heardBy m b) k)) 0)
     when true f =
         called-quiet m _ (startLine k w)
-        (record { distance = λ j n. refl; minus = λ j b. refl; reset = refl }) g
+        (record { distance = λ j n. refl; minus = λ j b. refl; reset = refl; set = refl; carry = refl }) g
         (record { next = refl; move = refl; position = refl })
     when false f =
         called-start m k w _
@@ -73,19 +81,31 @@ called-stopping m b g =
     when true f = called-stop m _ g true f refl refl refl
     when false f = called-stop m _ g false f refl refl refl
 
-called-order : (m : Machine) (b code : ℕ) → Good (m .move) → Accepts m (C.Order code) (obeys (heardBy m b) code)
+called-carrying : (m : Machine) (b : ℕ) → Good (m .move) → number m (C.Order 12) ≡ 0
+    → Accepts m (C.Order 12) (obeys (heardBy m b) 12)
+called-carrying m b g e =
+    let p11 = passed (m .move .moving && true) 11 _ (omega arith) e in
+    called-carry m _ g (resumable m (p11 .1)) (and-true (m .move .moving) (p11 .0)) refl refl refl
+
+called-order : (m : Machine) (b code : ℕ) → Good (m .move) → number m (C.Order code) ≡ 0
+    → Accepts m (C.Order code) (obeys (heardBy m b) code)
 called-order m b code g =
-    by-code (λ (k : ℕ). Accepts m (C.Order k) (obeys (heardBy m b) k)) (called-stopping m b g)
-    (called-same m _ false g (record { next = refl; move = refl; position = refl }))
-    (called-reset m _ g refl refl refl)
-    (λ k p q r. rw (p, q, r) (called-same m _ false g (record { next = refl; move = refl; position = refl }))) code
+    by-code (λ (k : ℕ). number m (C.Order k) ≡ 0 → Accepts m (C.Order k) (obeys (heardBy m b) k))
+    (λ e. called-stopping m b g)
+    (λ e. called-same m _ false g (record { next = refl; move = refl; position = refl }))
+    (λ e. called-reset m _ g refl refl refl)
+    (called-carrying m b g)
+    (λ k p q r t e. rw (p, q, r, t) (called-same m _ false g (record { next = refl; move = refl; position = refl })))
+    code
 
 called-accepted : (m : Machine) (b : ℕ) (c : Command) → Good (m .move) → number m c ≡ 0
     → Accepts m c (does (heardBy m b) c)
-called-accepted m b (C.Distance j s d) g e = called-distance m _ j d s g refl refl refl
+called-accepted m b (C.Distance j s d) g e =
+    called-distance m _ j d s g (and-true (m .move .moving) (passed (m .move .moving && true) 11 _ (omega arith) e .0))
+    refl refl refl
 called-accepted m b (C.Set code v) g e = called-setting m b code v g
 called-accepted m b (C.Start k w) g e = called-starting m b k w g e
-called-accepted m b (C.Order code) g e = called-order m b code g
+called-accepted m b (C.Order code) g e = called-order m b code g e
 called-accepted m b (C.Outputs v) g e = called-same m _ false g (record { next = refl; move = refl; position = refl })
 called-accepted m b (C.Read r) g e = called-same m _ false g (record { next = refl; move = refl; position = refl })
 

@@ -99,6 +99,7 @@ pub record Stopped (l : Machine) (P : Bool) (s : Machine) : Type 0 where
   pub ticks : s .move .ticks ≡ l .move .ticks
   pub moving : s .move .moving ≡ l .move .moving
   pub stopping : s .move .stopping ≡ P || l .move .stopping
+  pub replanned : s .move .replanned ≡ l .move .replanned
 
 pub stopped-is : (l : Machine) → Good (l .move) → Stopped l (cause l) (stops l)
 stopped-is l g = when (cause l)
@@ -106,7 +107,7 @@ stopped-is l g = when (cause l)
     when : (t : Bool) → Stopped l t
         (cond t (withFlags (withMove l (stopping (l .move))) (marks (l .flags) (limitOrWatch l) (sensorActive l))) l)
     when true = record {
-      good = record { axis = g .axis; under = g .under };
+      good = record { axis = g .axis; under = g .under; fixed = g .fixed };
       next = refl;
       position = refl;
       plan = refl;
@@ -115,6 +116,7 @@ stopped-is l g = when (cause l)
       ticks = refl;
       moving = refl;
       stopping = refl;
+      replanned = refl;
     }
     when false = record {
       good = g;
@@ -126,6 +128,7 @@ stopped-is l g = when (cause l)
       ticks = refl;
       moving = refl;
       stopping = refl;
+      replanned = refl;
     }
 
 pub start-plan : (S : Tried) (p : Plan) (v : Move) (k : ℕ)
@@ -168,6 +171,12 @@ pub start-stopping : (S : Tried) (p : Plan) (v : Move)
 start-stopping untried p v = refl
 start-stopping (failed n) p v = refl
 start-stopping (began j) p v = refl
+
+pub start-replanned : (S : Tried) (p : Plan) (v : Move)
+    → atStart S (λ j. newMove p j) v .replanned ≡ not (begins S) && v .replanned
+start-replanned untried p v = refl
+start-replanned (failed n) p v = refl
+start-replanned (began j) p v = refl
 
 -- Whether a move runs or begins in the tick.
 pub looked-moving : (m l s : Machine) (S : Tried) (P : Bool) → Looked m S l → Stopped l P s

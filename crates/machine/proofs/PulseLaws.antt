@@ -83,11 +83,12 @@ module _ (m : Machine) (g : Good (m .move)) (e : m .move .moving ≡ true) where
       → (moving ≡ false → gone (m .move) + 1 ≡ whole (m .move))
       → Runs m (pulse (m .move) (gone (m .move) + 1)) (withPause (withMove (stepped m u phase (gone (m .move) + 1))
       (moveOf (m .move .plan) (m .move .master) (share (m .move) (gone (m .move) + 1)) u phase (m .move .ticks) moving
-      stopping)) p)
+      stopping (m .move .replanned))) p)
   runs-shared u phase moving stopping p below same all = record {
     good = record {
       axis = step-axis;
       under = λ q. subst (λ (n : ℕ). n < whole (m .move)) (sym master-to) (below q);
+      fixed = λ q. g .fixed e;
     };
     plan = refl;
     master = refl;
@@ -99,6 +100,7 @@ module _ (m : Machine) (g : Good (m .move)) (e : m .move .moving ≡ true) where
     rests = λ q k. true-false (m .move .moving) e q;
     still = λ q. true-false (m .move .moving) e q;
     stopping = same;
+    replanned = refl;
     ending = λ _ _ r. record {
       reached = master-to ∙ all r;
       there = λ k h. share-whole _ _ _ _ positive (g .axis k h) (all r);

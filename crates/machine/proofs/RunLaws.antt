@@ -21,9 +21,10 @@ module _ (m : Machine) (g : Good (m .move)) where
       → (moving ≡ true → stopping ≡ m .move .stopping)
       → (m .move .moving ≡ true → m .move .stopping ≡ false → moving ≡ true)
       → Runs m (λ k. pos 0) (withPause (withMove m
-      (moveOf (m .move .plan) (m .move .master) (m .move .travel) u phase (m .move .ticks) moving stopping)) p)
+      (moveOf (m .move .plan) (m .move .master) (m .move .travel) u phase (m .move .ticks) moving stopping
+      (m .move .replanned))) p)
   runs-quiet u phase moving stopping p before still same on = record {
-    good = record { axis = g .axis; under = λ q. g .under (before q) };
+    good = record { axis = g .axis; under = λ q. g .under (before q); fixed = λ q. g .fixed (before q) };
     plan = refl;
     master = refl;
     next = refl;
@@ -34,6 +35,7 @@ module _ (m : Machine) (g : Good (m .move)) where
     rests = λ q k. refl;
     still = still;
     stopping = same;
+    replanned = refl;
     ending = λ a b c. true-false moving (on a b) c;
   }
 

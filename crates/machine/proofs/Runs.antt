@@ -12,14 +12,16 @@ use Rattle.machine.specs.Ramp.{tallied}
 use Rattle.machine.specs.List.{isPulse}
 use Rattle.machine.proofs.ShareLaws.{Share}
 
--- What is kept of the latest move: each axis has its exact share, and a move that runs is short of its end.
+-- What is kept of the latest move: each axis has its exact share, and a move that runs is short of its end, with no
+-- distance line since it began.
 pub record Good (v : Move) : Type 0 where
   pub axis : (k : ℕ) → k < 5 → Share (v .plan .distance k) (whole v) (gone v) (v .travel k)
   pub under : v .moving ≡ true → gone v < whole v
+  pub fixed : v .moving ≡ true → v .replanned ≡ false
 
 -- One tick more leaves it so.
 pub good-tallied : (m : Machine) → Good (m .move) → Good (tallied m .move)
-good-tallied m g = record { axis = g .axis; under = g .under }
+good-tallied m g = record { axis = g .axis; under = g .under; fixed = g .fixed }
 
 -- The end of a move at m = M: each axis at its distance, with a pulse in that very tick.
 pub record Whole (v : Move) (z : ℕ → ℤ) : Type 0 where
@@ -40,6 +42,7 @@ pub record Runs (m : Machine) (z : ℕ → ℤ) (a : Machine) : Type 0 where
   pub rests : m .move .moving ≡ false → (k : ℕ) → z k ≡ pos 0
   pub still : m .move .moving ≡ false → a .move .moving ≡ false
   pub stopping : a .move .moving ≡ true → a .move .stopping ≡ m .move .stopping
+  pub replanned : a .move .replanned ≡ m .move .replanned
   pub ending : m .move .moving ≡ true → m .move .stopping ≡ false → a .move .moving ≡ false → Whole (a .move) z
 
 -- What running leaves of m, counted with one tick more.
@@ -56,6 +59,7 @@ untallied m z a r = record {
   rests = r .rests;
   still = r .still;
   stopping = r .stopping;
+  replanned = r .replanned;
   ending = r .ending;
 }
 

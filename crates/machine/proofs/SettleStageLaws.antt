@@ -96,7 +96,8 @@ does-kept m (C.Order code) =
     (λ e. record { switch = refl; settle = refl; inputs = refl; outputs = refl }))
     (record { switch = refl; settle = refl; inputs = refl; outputs = refl })
     (record { switch = refl; settle = refl; inputs = refl; outputs = refl })
-    (λ k p q r. rw (p, q, r) (record { switch = refl; settle = refl; inputs = refl; outputs = refl })) code
+    (record { switch = refl; settle = refl; inputs = refl; outputs = refl })
+    (λ k p q r t. rw (p, q, r, t) (record { switch = refl; settle = refl; inputs = refl; outputs = refl })) code
 does-kept m (C.Outputs v) = record { switch = refl; settle = refl; inputs = refl; outputs = refl }
 does-kept m (C.Read r) = record { switch = refl; settle = refl; inputs = refl; outputs = refl }
 

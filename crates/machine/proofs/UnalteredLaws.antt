@@ -33,8 +33,8 @@ does-unaltered m (C.Start k waits) =
     (λ _. record { switch = refl; inputs = refl; line = refl })
 does-unaltered m (C.Order k) =
     by-code (λ (j : ℕ). Unaltered m (obeys m j)) stopped (record { switch = refl; inputs = refl; line = refl })
-    (record { switch = refl; inputs = refl; line = refl })
-    (λ j p q r. rw (p, q, r) (record { switch = refl; inputs = refl; line = refl })) k
+    (record { switch = refl; inputs = refl; line = refl }) (record { switch = refl; inputs = refl; line = refl })
+    (λ j p q r t. rw (p, q, r, t) (record { switch = refl; inputs = refl; line = refl })) k
   where
     stopped : Unaltered m (drops (ordered m))
     stopped = record {

@@ -24,7 +24,7 @@ use Rattle.machine.specs.Stops.{
 use Rattle.machine.specs.Steps.{Outcome, untaken, gathered, refused, accepted, outcome, looks}
 use Rattle.machine.specs.Steps.{untried, isShort, tooLarge, tickTurned, tickBy, tickStep}
 use Rattle.machine.specs.Calls.{Call, byte, tick, run, state}
-use Rattle.machine.specs.Roles.{begins, named, roleBy, startBy, stopBy, stopsIn, takesEffect}
+use Rattle.machine.specs.Roles.{begins, carriesBy, named, roleBy, startBy, stopBy, stopsIn, takesEffect}
 use Rattle.machine.specs.List.{effect, paused, stopBegun, goesOn}
 use Rattle.machine.specs.Watch.{watchBy, zeroes, lastWatch, ticksUnheard, watchStops, otherCause, Watch}
 use Rattle.machine.proofs.PauseStageLaws.{looked}
@@ -108,7 +108,7 @@ told-is : (s : ℕ) (h : List Call) (w : ℕ) (d : List ℕ) → tickTurned w d 
     → begins (effect s h (tick w d)) || goesOn s h ≡ true
     → watchStops s (tick w d ∷ h) ≡ true → bit (status (state s (tick w d ∷ h))) 3 ≡ true
 unfolding run
-told-is s h w d e r f = status-stopped (state s (tick w d ∷ h)) marked
+told-is s h w d e r f = status-stopped (state s (tick w d ∷ h)) ∙ marked
   where
     l : Machine
     l = looks (state s h) w
@@ -130,7 +130,7 @@ told-is s h w d e r f = status-stopped (state s (tick w d ∷ h)) marked
 
 -- What a byte that does not zero the count leaves: no start, no stop, and the watch as it was.
 record Left (o : Outcome) (p : Pause) (m : Machine) (v : ℕ) : Type 0 where
-  start : begins (startBy p (roleBy o)) ≡ false
+  start : carriesBy (roleBy o) || begins (startBy p (roleBy o)) ≡ false
   stop : stopBy m (roleBy o) ≡ false
   watch : watchBy o v ≡ v
 

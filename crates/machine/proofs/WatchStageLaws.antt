@@ -106,7 +106,7 @@ does-setting m (C.Order code) =
     by-code (λ (k : ℕ). obeys m k .settings .watch ≡ m .settings .watch)
     (by-bool (λ (a : Machine). drops a .settings .watch ≡ m .settings .watch) (m .move .moving) _ _
     (λ e. refl) (λ e. refl))
-    refl refl (λ k p q r. rw (p, q, r)) code
+    refl refl refl (λ k p q r t. rw (p, q, r, t)) code
 does-setting m (C.Outputs v) = refl
 does-setting m (C.Read r) = refl
 

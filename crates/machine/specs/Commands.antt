@@ -10,10 +10,12 @@ use Rattle.line.specs.Codes.{isW}
 use Rattle.line.specs.Ranges.{isWithin}
 use Rattle.machine.specs.State.{
   Plan,
+  Move,
   none,
   start,
   Settle,
   Machine,
+  moveOf,
   put,
   mark,
   withSettings,
@@ -27,14 +29,14 @@ use Rattle.machine.specs.State.{
   withSettle,
 }
 use Rattle.machine.specs.Stops.{emergencyActive, stopping, marks}
-use Rattle.machine.specs.Starts.{turnedBy, startNumber, begun, notes}
+use Rattle.machine.specs.Starts.{turnedBy, startNumber, begun, carryNumber, carried, notes}
 
--- 11 is for any start and any P but speed: distances, and the settings 9 to C.
+-- 11 is for any start and any P but speed: distances, and the settings 9 to C; and for a carry-on, Q C (paper 02, 6/14).
 abbrev pub wantsRest : Command → Bool
 wantsRest (C.Distance k s d) = true
 wantsRest (C.Set code v) = isWithin code 9 12
 wantsRest (C.Start k waits) = true
-wantsRest (C.Order code) = false
+wantsRest (C.Order code) = eqb code 12
 wantsRest (C.Outputs v) = false
 wantsRest (C.Read r) = false
 
@@ -42,16 +44,16 @@ wantsRest (C.Read r) = false
 abbrev pub stores : Machine → Bool → Bool
 stores m waits = waits && ltb 0 (m .pause .left)
 
--- A start that is being stored meets 4 to 11 only.
+-- A start that is being stored meets 4 to 11 only. Of the orders a carry-on has numbers of its own.
 abbrev pub ownNumber : Machine → Command → ℕ
 ownNumber m (C.Distance k s d) = 0
 ownNumber m (C.Set code v) = 0
 ownNumber m (C.Start k waits) = cond (stores m waits) 0 (startNumber m k)
-ownNumber m (C.Order code) = 0
+ownNumber m (C.Order code) = cond (eqb code 12) (carryNumber m) 0
 ownNumber m (C.Outputs v) = 0
 ownNumber m (C.Read r) = 0
 
--- The number that turns a well-formed line away: 11 a move runs, then a start's own; 0 where it is accepted.
+-- The number that turns a well-formed line away: 11 a move runs, then its own; 0 where it is accepted.
 abbrev pub number : Machine → Command → ℕ
 number m c = turnedBy 11 (m .move .moving && wantsRest c) (ownNumber m c)
 
@@ -63,6 +65,11 @@ setAxis p k s d = record {
   distance = λ j. cond (eqb j k) d (p .distance j);
   minus = λ j. cond (eqb j k) s (p .minus j);
 }
+
+-- Since then the latest move is not carried on (paper 02, 6/14).
+abbrev pub replans : Move → Move
+replans v =
+    moveOf (v .plan) (v .master) (v .travel) (v .speed) (v .phase) (v .ticks) (v .moving) (v .stopping) true
 
 -- Order 9 begins a stop of a running move, with bit 3, and drops a stored start.
 abbrev pub ordered : Machine → Machine
@@ -84,17 +91,18 @@ keepsStart m k = withPause m (record { left = m .pause .left; waiting = start k 
 abbrev pub obeysStart : Machine → ℕ → Bool → Machine
 obeysStart m k waits = cond (stores m waits) (keepsStart m k) (begun m k)
 
--- Orders by their codes: 9 stop, A clear bit 2, B position reset.
+-- Orders by their codes: 9 stop, A clear bit 2, B position reset, C carry on.
 abbrev pub obeys : Machine → ℕ → Machine
 obeys m code =
     cond (eqb code 9) (drops (ordered m))
     (cond (eqb code 10) (withFlags m (mark (m .flags) 2 false))
     (cond (eqb code 11) (resets m)
-    m))
+    (cond (eqb code 12) (carried m)
+    m)))
 
 -- What an accepted command does. A reading alters nothing.
 abbrev pub does : Machine → Command → Machine
-does m (C.Distance k s d) = withNext m (setAxis (m .next) k s d)
+does m (C.Distance k s d) = withMove (withNext m (setAxis (m .next) k s d)) (replans (m .move))
 does m (C.Set code v) = withSettings m (put (m .settings) code v)
 does m (C.Start k waits) = obeysStart m k waits
 does m (C.Order code) = obeys m code
@@ -109,6 +117,7 @@ settleBy c silent ident old = cond (isW c) (record { left = cond silent 0 2500; 
 abbrev pub awaits : Machine → Command → Bool → Ident → Machine
 awaits m c silent ident = withSettle m (settleBy c silent ident (m .settle))
 
--- Lines turned away by 10 to 17 zero the watch count, as accepted ones do; 14 sets bit 2.
+-- Lines turned away by 10 to 17, or by a number that a later request adds (26), zero the watch count, as accepted ones
+-- do; 14 sets bit 2.
 abbrev pub turned : Machine → ℕ → Machine
 turned m n = cond (leb 10 n) (notes (withWatch m 0) n) m

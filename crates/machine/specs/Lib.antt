@@ -10,10 +10,12 @@ pub mod Outputs
 pub mod Power
 pub mod Steps
 pub mod Calls
+pub mod Accepted
 pub mod Roles
 pub mod List
 pub mod Demand
 pub mod Journal
+pub mod Carry
 pub mod Watch
 pub mod Settle
 pub mod Marked

@@ -25,6 +25,7 @@ use Rattle.machine.specs.Roles.{
   pauseAfter,
   resetBy,
   sent,
+  setsOff,
   stopsIn,
   takesEffect,
 }
@@ -51,6 +52,10 @@ paused s (x ∷ h) = pauseAfter (state s h) (paused s h) (lastDwell s h) x
 -- The start that takes effect in a call x after the list, if one does.
 abbrev pub effect : ℕ → List Call → Call → Tried
 effect s h x = takesEffect (state s h) (paused s h) x
+
+-- Whether the call x after the list begins a move or carries the latest one on (paper 02, 6/14).
+abbrev pub departure : ℕ → List Call → Call → Bool
+departure s h x = setsOff (state s h) (paused s h) x
 
 -- Whether a start has taken effect. That begins a move, the latest until another start takes effect.
 unfoldable pub started : ℕ → List Call → Bool
@@ -86,17 +91,19 @@ unfoldable pub signed : ℕ → List Call → ℕ → ℤ
 signed s [] k = pos 0
 signed s (x ∷ h) k = cond (resetBy (lineOf (state s h) x)) (pos 0) (signed s h k +ℤ sent (state s h) x k)
 
--- Whether a stop has begun in the latest move, its start's own call included.
+-- Whether a stop has begun in the latest move, its start's own call included. Only the calls since its last carry-on
+-- count.
 unfoldable pub stopBegun : ℕ → List Call → Bool
 stopBegun s [] = false
 stopBegun s (x ∷ h) =
-    stopsIn (state s h) x || (not (begins (effect s h x)) && stopBegun s h)
+    stopsIn (state s h) x || (not (departure s h x) && stopBegun s h)
 
--- Whether the latest move has not ended: no tick that counts for its pulses has left status bit 1 at 0.
+-- Whether the latest move has not ended: no tick that counts for its pulses, since its last carry-on, has left status
+-- bit 1 at 0.
 unfoldable pub goesOn : ℕ → List Call → Bool
 goesOn s [] = false
 goesOn s (x ∷ h) =
-    (begins (effect s h x) || goesOn s h) && (not (isTick x) || moves (state s (x ∷ h)))
+    (departure s h x || goesOn s h) && (not (isTick x) || moves (state s (x ∷ h)))
 
 -- A move ends in the first tick that counts for its pulses and after which status bit 1 is 0.
 unfoldable pub ends : ℕ → List Call → Bool

@@ -19,7 +19,7 @@ powerOn switch = record {
   switch = cond (badSwitch switch) 0 switch;
   settings = record { speed = 10000; slope = 16; dwell = 0; watch = 1; polarity = 0; lowOn = 0; highOn = 0 };
   next = plan₀;
-  move = moveOf plan₀ 0 (λ k. 0) 0 0 0 false false;
+  move = moveOf plan₀ 0 (λ k. 0) 0 0 0 false false false;
   position = λ k. pos 0;
   inputs = 0;
   outputs = 0;

@@ -33,11 +33,12 @@ ramped s v =
 
 -- The move with another speed and phase.
 abbrev pub atSpeed : Move → ℕ → ℕ → Move
-atSpeed v u phase = moveOf (v .plan) (v .master) (v .travel) u phase (v .ticks) (v .moving) (v .stopping)
+atSpeed v u phase =
+    moveOf (v .plan) (v .master) (v .travel) u phase (v .ticks) (v .moving) (v .stopping) (v .replanned)
 
 -- At any end u and phase become 0 and the dwell starts: 250 ticks for each ms set.
 abbrev pub atRest : Move → Move
-atRest v = moveOf (v .plan) (v .master) (v .travel) 0 0 (v .ticks) false false
+atRest v = moveOf (v .plan) (v .master) (v .travel) 0 0 (v .ticks) false false (v .replanned)
 
 abbrev pub ended : Machine → Machine
 ended m = withPause (withMove m (atRest (m .move)))
@@ -58,7 +59,8 @@ halted m = record { machine = ended m; pulse = λ k. pos 0; entry = entry (entry
 
 -- The master pulses: travels become shares of the master travel n, positions change by one with each pulse.
 abbrev pub shared : Move → ℕ → ℕ → ℕ → Move
-shared v u phase n = moveOf (v .plan) (v .master) (share v n) u phase (v .ticks) (v .moving) (v .stopping)
+shared v u phase n =
+    moveOf (v .plan) (v .master) (share v n) u phase (v .ticks) (v .moving) (v .stopping) (v .replanned)
 
 abbrev pub stepped : Machine → ℕ → ℕ → ℕ → Machine
 stepped m u phase n =
@@ -89,7 +91,9 @@ ramps m =
 abbrev pub tallied : Machine → Machine
 tallied m =
     let v = m .move in
-    withMove m (moveOf (v .plan) (v .master) (v .travel) (v .speed) (v .phase) (v .ticks + 1) (v .moving) (v .stopping))
+    withMove m
+    (moveOf (v .plan) (v .master) (v .travel) (v .speed) (v .phase) (v .ticks + 1) (v .moving) (v .stopping)
+    (v .replanned))
 
 -- Nothing at rest.
 abbrev pub runs : Machine → Ran

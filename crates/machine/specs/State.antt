@@ -23,7 +23,8 @@ pub record Plan : Type 0 where
   pub minus : ℕ → Bool
 
 -- The latest move: what it started with, its travels, its speed u in fiftieths of a unit, its phase, the ticks in which
--- its ramp ran (paper 02, 1/14), and whether it runs and is being stopped. Before any move all is 0 and plus.
+-- its ramp ran (paper 02, 1/14), whether it runs and is being stopped, and whether a distance line was accepted since it
+-- began (6/14). Before any move all is 0 and plus.
 pub record Move : Type 0 where
   pub plan : Plan
   pub master : ℕ
@@ -33,6 +34,7 @@ pub record Move : Type 0 where
   pub ticks : ℕ
   pub moving : Bool
   pub stopping : Bool
+  pub replanned : Bool
 
 -- A start that waits for the end of the dwell, with its master.
 pub data Waiting : Type 0 where
@@ -100,9 +102,10 @@ mark f number b = record {
   sensed = cond (eqb number 6) b (f .sensed);
 }
 
--- A move by its plan, master, travels, speed, phase and ticks, and whether it runs and is being stopped.
-abbrev pub moveOf : Plan → ℕ → (ℕ → ℕ) → ℕ → ℕ → ℕ → Bool → Bool → Move
-moveOf plan master travel speed phase ticks moving stopping = record {
+-- A move by its plan, master, travels, speed, phase and ticks, whether it runs and is being stopped, and whether a
+-- distance line was accepted since.
+abbrev pub moveOf : Plan → ℕ → (ℕ → ℕ) → ℕ → ℕ → ℕ → Bool → Bool → Bool → Move
+moveOf plan master travel speed phase ticks moving stopping replanned = record {
   plan = plan;
   master = master;
   travel = travel;
@@ -111,6 +114,7 @@ moveOf plan master travel speed phase ticks moving stopping = record {
   ticks = ticks;
   moving = moving;
   stopping = stopping;
+  replanned = replanned;
 }
 
 -- A machine by its parts, in the order above.

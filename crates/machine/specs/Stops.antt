@@ -72,7 +72,8 @@ cause m = m .move .moving && (m .flags .emergency || sensorActive m || limitOrWa
 
 -- The move is being stopped.
 abbrev pub stopping : Move → Move
-stopping v = moveOf (v .plan) (v .master) (v .travel) (v .speed) (v .phase) (v .ticks) (v .moving) true
+stopping v =
+    moveOf (v .plan) (v .master) (v .travel) (v .speed) (v .phase) (v .ticks) (v .moving) true (v .replanned)
 
 -- Bits 3 (order, limit or watch) and 6 (sensor) are set as a stop cause meets a running move.
 abbrev pub marks : Flags → Bool → Bool → Flags

@@ -1,0 +1,183 @@
+-- Paper 02, 6/14, for every list of calls: the number that a line Q C meets, and what an accepted one does. Assumes
+-- nothing.
+use Prim.Native.Nat.{ℕ, _-_, _<_}
+use mathlib.Core.Bool.{Bool, true, false, cond, not, _&&_, _||_, or-false}
+use mathlib.Core.List.{List, _∷_}
+use mathlib.Core.Path.{_≡_, refl, sym, ap, _∙_}
+use native.Mathlib.Omega.{arith}
+use borrow.Author.Tests.{eq-eqb, ne-eqb}
+use lib.Dec.{leb, eqb}
+use lib.IntN.{ℤ, _+ℤ_}
+use Rattle.laws.specs.Axes.{some, directed}
+use Rattle.laws.specs.Bits.{bit}
+use Rattle.laws.proofs.Pick.{by-bool, by-eq}
+use Rattle.digits.specs.declared.Ident.{Ident}
+use Rattle.line.specs.declared.command.Command.the-variants as C
+use Rattle.inputs.specs.Inputs.{blockedAt}
+use Rattle.machine.specs.State.{Move, Machine, mark, withWatch, withFlags}
+use Rattle.machine.specs.Stops.{blocked, sensorActive, status}
+use Rattle.machine.specs.Starts.{turnedBy, outside, final, canCarryOn, openPlan, carryNumber, notes}
+use Rattle.machine.specs.Commands.{number, turned}
+use Rattle.machine.specs.Steps.{Outcome, accepted, refused, outcomeOf, outcome, untaken, answered, heardBy, byteStep}
+use Rattle.machine.specs.Calls.{Call, byte, run, state}
+use Rattle.machine.specs.List.{goesOn, signed}
+use Rattle.machine.specs.Carry.{
+  openAfter,
+  finalAfter,
+  stoppedShort,
+  carryNumberAfter,
+  CarryLine,
+  Onward,
+  CarryOn,
+}
+use Rattle.machine.proofs.BitLaws.{status-stopped, status-emergency, status-sensed}
+use Rattle.machine.proofs.Told.{Told}
+use Rattle.machine.proofs.ListLaws.{told}
+use Rattle.machine.proofs.JournalLaws.{ticks-run}
+use Rattle.machine.proofs.ShortLaws.{short-is}
+
+-- ---- The number
+
+-- What holds of one of five axes, by what holds of each.
+some-same : (f g : ℕ → Bool) → ((k : ℕ) → k < 5 → f k ≡ g k) → some f ≡ some g
+some-same f g e i =
+    e 0 (omega arith) i || e 1 (omega arith) i || e 2 (omega arith) i || e 3 (omega arith) i || e 4 (omega arith) i
+
+module _ (s : ℕ) (h : List Call) where
+  abbrev m : Machine
+  m = state s h
+
+  abbrev t : Told s h
+  t = told s h
+
+  open-distance : (k : ℕ) → k < 5 → openPlan m .distance k ≡ openAfter s h .distance k
+  open-distance k l i = t .distances k i - t .counts k l i
+
+  same-blocked : blocked m (openPlan m) ≡ blocked m (openAfter s h)
+  same-blocked =
+      some-same _ _ (λ k l i. blockedAt (m .settings .lowOn) (m .settings .highOn) (m .inputs) (open-distance k l i)
+      (t .minuses k i) k)
+
+  same-final : some (λ k. outside (final m (openPlan m) k)) ≡ some (λ k. outside (finalAfter s h k))
+  same-final =
+      some-same _ _ (λ k l i. outside (t .sums k i +ℤ directed (t .minuses k i) (open-distance k l i)))
+
+  -- By whether a move runs.
+  number-is : number m (C.Order 12) ≡ carryNumberAfter s h
+  number-is = when (m .move .moving) refl ∙ ap (λ (b : Bool). turnedBy 11 b rest) (t .goes)
+    where
+      rest : ℕ
+      rest =
+          turnedBy 26 (not (stoppedShort s h))
+          (turnedBy 12 (bit (status m) 5)
+          (turnedBy 13 (sensorActive m)
+          (turnedBy 16 (blocked m (openAfter s h))
+          (turnedBy 17 (some (λ k. outside (finalAfter s h k)))
+          0))))
+
+      when : (b : Bool) → m .move .moving ≡ b → turnedBy 11 (b && true) (carryNumber m) ≡ turnedBy 11 b rest
+      when true e = refl
+      when false e = λ i.
+          turnedBy 26 (not (short-is s h e i))
+          (turnedBy 12 (sym (status-emergency m) i)
+          (turnedBy 13 (sensorActive m)
+          (turnedBy 16 (same-blocked i)
+          (turnedBy 17 (same-final i)
+          0))))
+
+-- ---- The line
+
+-- What comes of a byte that ends a line Q C, by whether a number turns it away, and the machine and the number that it
+-- leaves.
+abbrev carries : Machine → Bool → Ident → ℕ → Bool → Outcome
+carries m silent ident digits taken =
+    cond taken (accepted (C.Order 12) digits silent ident) (refused (number m (C.Order 12)) silent ident)
+
+module _ (m : Machine) (b : ℕ) (buffer : List ℕ) (l : CarryLine m b buffer) where
+  outcome-is : outcome m b buffer ≡ carries m (l .silent) (l .ident) (l .digits) (eqb (number m (C.Order 12)) 0)
+  outcome-is = λ i. cond (l .lent i) untaken (outcomeOf m (l .heard i))
+
+  told-number : byteStep m b buffer .number ≡ number m (C.Order 12)
+  told-number =
+      ap (λ (o : Outcome). answered m b o .number) outcome-is
+      ∙ by-eq (λ (o : Outcome). answered m b o .number ≡ number m (C.Order 12)) (number m (C.Order 12)) 0 _ _
+      (λ (e : number m (C.Order 12) ≡ 0). sym e) (λ e. refl)
+
+  by : {t : Bool} → eqb (number m (C.Order 12)) 0 ≡ t
+      → carries m (l .silent) (l .ident) (l .digits) (eqb (number m (C.Order 12)) 0)
+      ≡ carries m (l .silent) (l .ident) (l .digits) t
+  by e = ap (carries m (l .silent) (l .ident) (l .digits)) e
+
+  taken-is : number m (C.Order 12) ≡ 0
+      → byteStep m b buffer .machine ≡ answered m b (accepted (C.Order 12) (l .digits) (l .silent) (l .ident)) .machine
+  taken-is e =
+      ap (λ (o : Outcome). answered m b o .machine) (outcome-is ∙ by (eq-eqb _ 0 e))
+
+  refused-is : (number m (C.Order 12) ≡ 0 → ⊥)
+      → byteStep m b buffer .machine ≡ turned (heardBy m b) (number m (C.Order 12))
+  refused-is e =
+      ap (λ (o : Outcome). answered m b o .machine) (outcome-is ∙ by (ne-eqb _ 0 e))
+
+-- Its numbers zero the watch count, and none of them is 14.
+module _ (m : Machine) where
+  abbrev Zeroes : ℕ → Type 0
+  Zeroes n = (n ≡ 0 → ⊥) → turned m n ≡ withWatch m 0
+
+  late : (n : ℕ) → leb 10 n ≡ true → eqb n 14 ≡ false → Zeroes n
+  late n e f q =
+      ap (λ (t : Bool). cond t (notes (withWatch m 0) n) m) e
+      ∙ ((λ i. withFlags (withWatch m 0) (mark (m .flags) 2 (m .flags .wrongMaster || f i)))
+      ∙ λ i. withFlags (withWatch m 0) (mark (m .flags) 2 (or-false (m .flags .wrongMaster) i)))
+
+  by-number : (b : Bool) (n r : ℕ) → leb 10 n ≡ true → eqb n 14 ≡ false → Zeroes r → Zeroes (turnedBy n b r)
+  by-number b n r e f z = by-bool Zeroes b n r (λ _. late n e f) (λ _. z)
+
+  zeroes : Zeroes (number m (C.Order 12))
+  zeroes =
+      by-number (m .move .moving && true) 11 _ refl refl
+      (by-number (not (canCarryOn m)) 26 _ refl refl
+      (by-number (m .flags .emergency) 12 _ refl refl
+      (by-number (sensorActive m) 13 _ refl refl
+      (by-number (blocked m (openPlan m)) 16 _ refl refl
+      (by-number (some (λ k. outside (final m (openPlan m) k))) 17 _ refl refl
+      (λ q. absurd (q refl)))))))
+
+-- ---- What an accepted one does
+
+onward : (s : ℕ) (h : List Call) (b : ℕ) (buffer : List ℕ) → CarryLine (state s h) b buffer
+    → number (state s h) (C.Order 12) ≡ 0 → Onward s h (byte b buffer)
+unfolding run
+onward s h b buffer l e = record {
+  runs = sym (u .goes) ∙ moving;
+  unstopped = sym (u .stops moving) ∙ ap (λ (a : Machine). a .move .stopping) p;
+  master = sym (u .masters) ∙ (ap (λ (a : Machine). a .move .master) p ∙ told s h .masters);
+  distances = λ k. sym (u .distances k) ∙ (ap (λ (a : Machine). a .move .plan .distance k) p ∙ told s h .distances k);
+  minuses = λ k. sym (u .minuses k) ∙ (ap (λ (a : Machine). a .move .plan .minus k) p ∙ told s h .minuses k);
+  travels = λ k. ap (λ (a : Machine). a .move .travel k) p;
+  positions = λ k. ap (λ (a : Machine). a .position k) p;
+  speed = ap (λ (a : Machine). a .move .speed) p;
+  phase = ap (λ (a : Machine). a .move .phase) p;
+  stopped = status-stopped (state s (byte b buffer ∷ h)) ∙ ap (λ (a : Machine). a .flags .stopped) p;
+  sensed = status-sensed (state s (byte b buffer ∷ h)) ∙ ap (λ (a : Machine). a .flags .sensed) p;
+  pause = sym (u .pause) ∙ ap (λ (a : Machine). a .pause) p;
+  ticks = sym (ticks-run s (byte b buffer ∷ h) moving) ∙ ap (λ (a : Machine). a .move .ticks) p;
+}
+  where
+    p : byteStep (state s h) b buffer .machine
+        ≡ answered (state s h) b (accepted (C.Order 12) (l .digits) (l .silent) (l .ident)) .machine
+    p = taken-is (state s h) b buffer l e
+
+    u : Told s (byte b buffer ∷ h)
+    u = told s (byte b buffer ∷ h)
+
+    moving : byteStep (state s h) b buffer .machine .move .moving ≡ true
+    moving = ap (λ (a : Machine). a .move .moving) p
+
+pub carry-on : CarryOn
+unfolding run
+carry-on s h b buffer l = record {
+  number = told-number (state s h) b buffer l ∙ number-is s h;
+  taken = λ e. onward s h b buffer l (number-is s h ∙ e);
+  refused = λ e. refused-is (state s h) b buffer l (λ q. e (sym (number-is s h) ∙ q))
+      ∙ zeroes (heardBy (state s h) b) (λ q. e (sym (number-is s h) ∙ q));
+}
