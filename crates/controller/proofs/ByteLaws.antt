@@ -26,15 +26,16 @@ use Rattle.reply.specs.Reply.{travelDigits, twenty, bias, origin, replyOf, told
 use Rattle.reply.proofs.Replies.{reply-same}
 use Rattle.machine.specs.State.{Machine, withFlags, withMove, withWatch, withSettle}
 use Rattle.machine.specs.Stops.{status, blocked, stopping, marks}
-use Rattle.machine.specs.Starts.{begun, notes, outside}
+use Rattle.machine.specs.Starts.{begun, carryNumber, notes, outside}
 use Rattle.machine.specs.Commands.{number, does, awaits, drops, stores, keepsStart, obeys, turned}
 use Rattle.machine.specs.Replies as machine
 use Rattle.machine.specs.Replies.{toldOf}
 use Rattle.machine.proofs.FitLaws.{Fits}
 use Rattle.controller.specs.declared.state.Controller.{Controller}
 use Rattle.controller.specs.Held.{held, heldHot, heldPlan, heldSettings, isGiven, characterOf}
-use Rattle.controller.specs.Inner.Parts.{withFlag, withHot, withNext, blockedIn}
+use Rattle.controller.specs.Inner.Parts.{withReplanned, withFlag, withHot, withNext, blockedIn}
 use Rattle.controller.specs.Inner.Start.{begunOf, startNumberOf}
+use Rattle.controller.specs.Inner.Carry.{carryNumberOf}
 use Rattle.controller.specs.Inner.Settings.{setSettingOf}
 use Rattle.controller.specs.Inner.Orders.{
   obeyStartOf,
@@ -50,6 +51,7 @@ use Rattle.controller.specs.Inner.Numbers.{numberOf, turnedOf, turnedGiv
 use Rattle.controller.specs.Inner.Status.{statusGiven, statusOf, readingsOf}
 use Rattle.controller.proofs.TickLaws.{each-at}
 use Rattle.controller.proofs.StartLaws.{start-is, begun-is}
+use Rattle.controller.proofs.CarryLaws.{carry-is, carried-is}
 
 -- ---- Effects
 
@@ -87,7 +89,7 @@ stop-is m = when (m .move .moving)
 pub does-is : (m : Machine) (c : Command) → CommandFits c → doesOf (held m) c ≡ held (does m c)
 does-is m (C.Distance k s d) h =
     let l = distance k s d h .0 in
-    λ i. withNext (held m) (record {
+    λ i. withNext (withHot (held m) (withReplanned (heldHot m) true)) (record {
       distances = set-is (m .next .distance) d k l i;
       minus = set-is (m .next .minus) s k l i;
     })
@@ -95,7 +97,7 @@ does-is m (C.Set code v) h = setting-is m code v
 does-is m (C.Start k w) h = starting-is m k w (axis k h)
 does-is m (C.Order code) h =
     by-code (λ (k : ℕ). obeyOrderOf (held m) k ≡ held (obeys m k)) (stop-is m) refl refl
-    (λ k p q r. rw (p, q, r)) code
+    (ap (withHot (held m)) (carried-is m)) (λ k p q r t. rw (p, q, r, t)) code
 does-is m (C.Outputs v) h = refl
 does-is m (C.Read r) h = refl
 
@@ -139,7 +141,15 @@ number-is m (C.Start k w) f h =
     own-number (m .move .moving) (cond (stores m w) 0
     (startNumberOf (heldSettings (m .settings)) (heldPlan (m .next)) (heldHot m) k))
     ∙ ap (λ (n : ℕ). cond (m .move .moving && true) 11 (cond (stores m w) 0 n)) (start-is m k (axis k h) f)
-number-is m (C.Order code) f h = no-number (m .move .moving)
+number-is m (C.Order code) f h = when (eqb code 12)
+  where
+    when : (t : Bool)
+        → _≡_ {A = ℕ} (cond t (cond (m .move .moving) 11 (carryNumberOf (heldSettings (m .settings)) (heldHot m))) 0)
+        (cond (m .move .moving && t) 11 (cond t (carryNumber m) 0))
+    when true =
+        own-number (m .move .moving) (carryNumberOf (heldSettings (m .settings)) (heldHot m))
+        ∙ ap (λ (n : ℕ). cond (m .move .moving && true) 11 n) (carry-is m f)
+    when false = no-number (m .move .moving)
 number-is m (C.Outputs v) f h = no-number (m .move .moving)
 number-is m (C.Read r) f h = no-number (m .move .moving)
 

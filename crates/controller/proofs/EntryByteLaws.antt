@@ -40,13 +40,14 @@ use Rattle.machine.proofs.Fits.{Fits, fits-same}
 use Rattle.controller.specs.declared.state.Controller.{Controller}
 use Rattle.controller.specs.declared.state.ByteAnswer.{ByteAnswer}
 use Rattle.controller.specs.Held.{held, heldByte}
-use Rattle.controller.specs.Inner.Start.{StartFits}
+use Rattle.controller.specs.Inner.Numbers.{NumberFits}
 use Rattle.controller.specs.Inner.Orders.{zeroWatchOf}
 use Rattle.controller.specs.Inner.Settle.{awaitsOf}
 use Rattle.controller.specs.Inner.Status.{readingsOf}
 use Rattle.controller.specs.Inner.LineEnd.{refuseOf, refuseReply, obeyOf, tellReply, linedOf, linedReply}
 use Rattle.controller.specs.Inner.Power.{withLineOf}
 use Rattle.controller.proofs.StartLaws.{start-fits}
+use Rattle.controller.proofs.CarryLaws.{carry-fits}
 use Rattle.controller.proofs.ByteLaws.{does-is, awaits-is, turned-is, number-is, reply-is}
 
 -- Whatever is heard is in range.
@@ -139,9 +140,8 @@ module _ (m : Machine) (b : ℕ) (d : List ℕ) (f : Fits m) (self : Controller)
     pub heard-is : c ≡ held (heardBy m b)
     heard-is = p ∙ (λ i. withLineOf (sym e i) (q i .next))
 
-    pub heard-start : StartFits (c .cold .next) (c .hot .counters)
-    heard-start =
-        subst (λ (x : Controller). StartFits (x .cold .next) (x .hot .counters)) (sym heard-is) (start-fits m f)
+    pub heard-number : NumberFits c
+    heard-number = subst NumberFits (sym heard-is) (record { start = start-fits m f; carry = carry-fits m f })
 
     given : (r : ByteAnswer) (x : List ℕ) → Given m b r x d (outcomeOf m (taken .heard))
         → (r ≡ heldByte (byteStep m b d)) × (x ≡ bufferAfter (byteStep m b d) d)

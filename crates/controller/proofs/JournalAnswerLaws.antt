@@ -1,7 +1,7 @@
 -- Paper 02, 1/14, over the code's own calls (specs/Journal.antt): what a list of answers tells is what is read off the
 -- machine's list of those calls. Assumes nothing.
 use Prim.Native.Nat.{ℕ, _+_, _<_}
-use mathlib.Core.Bool.{true, false, cond}
+use mathlib.Core.Bool.{true, false, cond, _||_}
 use mathlib.Core.List.{List, [], _∷_}
 use mathlib.Core.Path.{_≡_, refl, sym, ap, subst, _∙_}
 use native.Mathlib.Omega.{arith}
@@ -15,8 +15,8 @@ use Rattle.machine.specs.Entries.{EntryAnswer, noEntry, entry}
 use Rattle.machine.specs.Steps.{Outcome, tickStep}
 use Rattle.machine.specs.Calls as calls
 use Rattle.machine.specs.Calls.{Call, state, buffer, bytes}
-use Rattle.machine.specs.Roles.{begins, isTaken, roleBy, startBy}
-use Rattle.machine.specs.List.{effect, paused, master, ends, whole}
+use Rattle.machine.specs.Roles.{begins, carriesBy, isTaken, roleBy, startBy}
+use Rattle.machine.specs.List.{effect, departure, paused, master, ends, whole}
 use Rattle.machine.specs.Journal.{ticksSince, moved, moveEntry, latestEntry}
 use Rattle.machine.proofs.FitLaws.{fits as in-range}
 use Rattle.machine.proofs.ListLaws.{told}
@@ -40,7 +40,7 @@ use Rattle.controller.proofs.GatherLaws.{gathers, by-characters}
 ticks-before : (s b : ℕ) (h : List Call) → eqb b 13 ≡ false → ticksSince s (calls.byte b buffer ∷ h) ≡ ticksSince s h
 unfolding ticksSince
 ticks-before s b h e =
-    ap (λ (o : Outcome). cond (begins (startBy (paused s h) (roleBy o))) 0 (ticksSince s h) + 0)
+    ap (λ (o : Outcome). cond (carriesBy (roleBy o) || begins (startBy (paused s h) (roleBy o))) 0 (ticksSince s h) + 0)
     (gathers (state s h) b e)
     ∙ omega arith
 
@@ -55,7 +55,7 @@ ticks-held : (s : ℕ) (l : List Answered) → ticksIn s l ≡ ticksSince s (cal
 unfolding ticksIn ticksSince
 ticks-held s [] = refl
 ticks-held s (byte b before exit r ∷ l) =
-    ap (cond (begins (effect s (callsOf l) (calls.byte b before))) 0) (ticks-held s l) ∙ omega arith
+    ap (cond (departure s (callsOf l) (calls.byte b before)) 0) (ticks-held s l) ∙ omega arith
 ticks-held s (tick w before exit r ∷ l) =
     λ i. cond (begins (effect s (callsOf l) (calls.tick w before))) 0 (ticks-held s l i)
     + weight (isTaken (calls.tick w before)) 1

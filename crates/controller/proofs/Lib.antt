@@ -6,6 +6,7 @@ mod LineEndLaws
 mod SettleLaws
 pub mod TickLaws
 pub mod StartLaws
+pub mod CarryLaws
 pub mod PulseLaws
 mod NeedLaws
 pub mod SignLaws

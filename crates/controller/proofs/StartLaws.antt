@@ -11,12 +11,12 @@ use Rattle.laws.specs.Axes.{each, some}
 use Rattle.laws.proofs.Five.{five}
 use Rattle.outputs.specs.Outputs.{restOf, fireOf}
 use Rattle.reply.specs.Reply.{bias}
-use Rattle.machine.specs.State.{Machine, Waiting, none, start}
+use Rattle.machine.specs.State.{Plan, Machine, Waiting, none, start}
 use Rattle.machine.specs.Stops.{sensorActive, blocked}
 use Rattle.machine.specs.Starts.{outside, final, startNumber, begun}
 use Rattle.machine.specs.Steps.{Tried, untried, failed, began, tryWaiting, tryStart, tries, waits, failure}
 use Rattle.machine.proofs.PositionLaws.{bias-small, leaves, leaves-is}
-use Rattle.machine.proofs.FitLaws.{Fits, WaitingFits}
+use Rattle.machine.proofs.FitLaws.{PlanFits, Fits, WaitingFits}
 use Rattle.controller.specs.declared.dwell.Waited.{Waited}
 use Rattle.controller.specs.Held.{heldSettings, heldPlan, heldWaiting, heldHot}
 use Rattle.controller.specs.Inner.Parts.{runOf, withCounters, withRun, withPause, positionAt}
@@ -26,29 +26,32 @@ use Rattle.controller.proofs.TickLaws.{each-at}
 
 -- ---- The number that turns a start away
 
-module _ (m : Machine) (f : Fits m) where
+module _ (m : Machine) (f : Fits m) (p : Plan) where
   -- An axis's way out of the range, on what is held.
-  leave-is : (k : ℕ) → k < 5
-      → cond (m .next .minus k) (ltb (bias (m .position k)) (m .next .distance k))
-      (ltb 1048575 (bias (m .position k) + m .next .distance k))
-      ≡ outside (final m k)
+  pub leave-is : (k : ℕ) → k < 5
+      → cond (p .minus k) (ltb (bias (m .position k)) (p .distance k))
+      (ltb 1048575 (bias (m .position k) + p .distance k))
+      ≡ outside (final m p k)
   leave-is k h =
-      when (m .next .minus k) (bias (m .position k)) (m .next .distance k)
-      ∙ leaves-is (m .next .minus k) (m .position k) (m .next .distance k) (f .places .inside k h)
+      when (p .minus k) (bias (m .position k)) (p .distance k)
+      ∙ leaves-is (p .minus k) (m .position k) (p .distance k) (f .places .inside k h)
     where
       when : (s : Bool) (b d : ℕ) → cond s (ltb b d) (ltb 1048575 (b + d)) ≡ leaves s b d
       when true b d = refl
       when false b d = refl
 
-  pub start-fits : StartFits (heldPlan (m .next)) (heldHot m .counters)
-  start-fits = record {
-    distance = λ k h. subst (λ (d : ℕ). d ≤ 524287) (sym (each-at (m .next .distance) 0 k h)) (f .next k h);
+  pub plan-fits : PlanFits p → StartFits (heldPlan p) (heldHot m .counters)
+  plan-fits g = record {
+    distance = λ k h. subst (λ (d : ℕ). d ≤ 524287) (sym (each-at (p .distance) 0 k h)) (g k h);
     position = five (λ (k : ℕ). positionAt (heldHot m .counters) k .0 ≤ 1048575)
         (low 0 (lit< tt)) (low 1 (lit< tt)) (low 2 (lit< tt)) (low 3 (lit< tt)) (low 4 (lit< tt));
   }
     where
       low : (k : ℕ) → k < 5 → bias (m .position k) ≤ 1048575
       low k h = bias-small (m .position k) (f .places .inside k h)
+
+pub start-fits : (m : Machine) → Fits m → StartFits (heldPlan (m .next)) (heldHot m .counters)
+start-fits m f = plan-fits m f (m .next) (f .next)
 
 pub start-is : (m : Machine) (k : ℕ) → k < 5 → Fits m
     → startNumberOf (heldSettings (m .settings)) (heldPlan (m .next)) (heldHot m) k ≡ startNumber m k
@@ -58,8 +61,8 @@ start-is m k h f = λ i.
     (cond (some (λ j. ltb (each-at (m .next .distance) 0 k h i) (m .next .distance j))) 14
     (cond (eqb (each-at (m .next .distance) 0 k h i) 0) 15
     (cond (blocked m (m .next)) 16
-    (cond (leave-is m f 0 (lit< tt) i || leave-is m f 1 (lit< tt) i || leave-is m f 2 (lit< tt) i
-    || leave-is m f 3 (lit< tt) i || leave-is m f 4 (lit< tt) i) 17
+    (cond (leave-is m f (m .next) 0 (lit< tt) i || leave-is m f (m .next) 1 (lit< tt) i || leave-is m f (m .next) 2 (lit< tt) i
+    || leave-is m f (m .next) 3 (lit< tt) i || leave-is m f (m .next) 4 (lit< tt) i) 17
     0)))))
 
 -- ---- What a start begins
@@ -78,7 +81,7 @@ begun-is m k h = λ i.
       travels = each (λ j. record { 0 = 0 });
       remainders = rest 0 i ∷ rest 1 i ∷ rest 2 i ∷ rest 3 i ∷ rest 4 i ∷ [];
       positions = heldHot m .counters .positions;
-    })) (runOf (each-at (m .next .distance) 0 k h i) 0 0 0 k true false 0 0)
+    })) (runOf (each-at (m .next .distance) 0 k h i) 0 0 0 k false true false 0 0)
   where
     rest : (j : ℕ) → 0 ≡ 0 * m .next .distance j % m .next .distance k
     rest j = no-remainder (m .next .distance j) (m .next .distance k)

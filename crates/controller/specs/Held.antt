@@ -72,6 +72,7 @@ heldRun v = record {
   speed = v .speed;
   phase = v .phase;
   master = v .master;
+  replanned = v .replanned;
   moving = v .moving;
   stopping = v .stopping;
   ticks = ticksLeft (v .ticks);

@@ -7,6 +7,7 @@ pub mod Words
 pub mod Motion
 pub mod Watch
 pub mod Start
+pub mod Carry
 pub mod Dwell
 pub mod Entry
 pub mod Settings

@@ -30,6 +30,7 @@ use receiver::Heard;
 use receiver::Receiver;
 
 mod aside;
+mod carry;
 mod dwell;
 mod entry;
 mod line_end;

@@ -4,7 +4,7 @@ ghost use Prim.Native.Nat.{_≤_};
 ghost use lib.ListN.{length};
 ghost use Rattle.block.specs.Block.{over};
 ghost use Rattle.line.specs.Fits.{CommandFits, JudgedFits};
-ghost use Rattle.controller.specs.Inner.Start.{StartFits};
+ghost use Rattle.controller.specs.Inner.Numbers.{NumberFits};
 ghost use Rattle.controller.specs.Inner.LineEnd.{
   refuseOf,
   refuseReply,
@@ -93,7 +93,7 @@ pub(crate) fn lined(
     ident: Ident,
     judged: Judged,
 ) -> ByteAnswer
-    requires { ⌜ (120 ≤ length (now buf)) × JudgedFits judged × StartFits (c .cold .next) (c .hot .counters) ⌝ }
+    requires { ⌜ (120 ≤ length (now buf)) × JudgedFits judged × NumberFits c ⌝ }
     ensures { λ r. ⌜ r ≡ linedOf c silent ident judged ⌝ }
     ensures { λ r. ⌜ now (buf .exit) ≡ over (linedReply c silent ident judged) (now (buf .entry)) ⌝ }
 {

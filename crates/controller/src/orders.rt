@@ -11,7 +11,9 @@ ghost use Rattle.controller.specs.Inner.Orders.{
   doesOf,
   zeroWatchOf,
 };
+use crate::carry;
 use crate::numbers;
+use crate::numbers::CARRY_ON;
 use crate::settings;
 use crate::start;
 use crate::state::Controller;
@@ -74,7 +76,7 @@ fn obey_reset(c: Controller) -> Controller
     next
 }
 
-// Orders by their codes: 9 stop, A clear bit 2, B position reset.
+// Orders by their codes: 9 stop, A clear bit 2, B position reset, C carry on.
 fn obey_order(c: Controller, code: u8) -> Controller
     ensures { λ r. ⌜ r ≡ obeyOrderOf c code ⌝ }
 {
@@ -88,6 +90,13 @@ fn obey_order(c: Controller, code: u8) -> Controller
     }
     if code == 11 {
         return obey_reset(c);
+    }
+    if code == CARRY_ON {
+        let hot = c.hot;
+        let onward = carry::carried(hot);
+        let mut next = c;
+        next.hot = onward;
+        return next;
     }
     c
 }

@@ -9,7 +9,7 @@ use crate::state::Settings;
 // The code of the polarity.
 const POLARITY: u8 = 12;
 
-// The next move's distance and direction of an axis.
+// The next move's distance and direction of an axis. The latest move is then not carried on (paper 02, 6/14).
 pub(crate) fn set_axis(c: Controller, axis: u8, minus: bool, length: u32) -> Controller
     requires { ⌜ axis < 5 ⌝ }
     ensures { λ r. ⌜ r ≡ setAxisOf c axis minus length ⌝ }
@@ -22,6 +22,7 @@ pub(crate) fn set_axis(c: Controller, axis: u8, minus: bool, length: u32) -> Con
     cold.next = plan;
     let mut next = c;
     next.cold = cold;
+    next.hot.run.replanned = true;
     next
 }
 

@@ -42,7 +42,7 @@ fn leaves_at(next: Plan, counters: Counters, k: usize) -> bool
 }
 
 // Whether some final position is out of range.
-fn some_leave(next: Plan, counters: Counters) -> bool
+pub(crate) fn some_leave(next: Plan, counters: Counters) -> bool
     requires { ⌜ StartFits next counters ⌝ }
     ensures { λ r. ⌜ r ≡ someLeaveOf next counters ⌝ }
 {
@@ -105,7 +105,8 @@ pub(crate) fn begun(next: Plan, polarity: u32, switch: u8, hot: Hot, master: u8)
         gone: 0,
         speed: 0,
         phase: 0,
-        master: master as u16,
+        master,
+        replanned: false,
         moving: true,
         stopping: false,
         ticks: 0,

@@ -8,7 +8,8 @@ use Rattle.line.specs.Ranges.{isWithin}
 use Rattle.controller.specs.declared.state.Controller.{Controller}
 use Rattle.controller.specs.declared.state.Hot.{Hot}
 use Rattle.controller.specs.Inner.Parts.{withWatch, withFlag, withHot}
-use Rattle.controller.specs.Inner.Start.{startNumberOf}
+use Rattle.controller.specs.Inner.Start.{startNumberOf, StartFits}
+use Rattle.controller.specs.Inner.Carry.{carryNumberOf, CarryFits}
 
 -- A start after the dwell is stored if a dwell runs.
 abbrev pub storesOf : Controller → Bool → Bool
@@ -28,12 +29,25 @@ startLineOf c k waits =
 abbrev pub settingNumberOf : Controller → ℕ → ℕ
 settingNumberOf c code = cond (isWithin code 9 12) (restNumberOf c) 0
 
+-- A carry-on's number: 11, then its own.
+abbrev pub carryLineOf : Controller → ℕ
+carryLineOf c = cond (c .hot .run .moving) 11 (carryNumberOf (c .cold .settings) (c .hot))
+
+-- An order's number: a carry-on alone has one.
+abbrev pub orderNumberOf : Controller → ℕ → ℕ
+orderNumberOf c code = cond (eqb code 12) (carryLineOf c) 0
+
+-- What the number needs.
+pub record NumberFits (c : Controller) : Type 0 where
+  pub start : StartFits (c .cold .next) (c .hot .counters)
+  pub carry : CarryFits (c .hot)
+
 -- The number that turns a well-formed line away, or 0.
 abbrev pub numberOf : Controller → Command → ℕ
 numberOf c (C.Distance k s d) = restNumberOf c
 numberOf c (C.Set code v) = settingNumberOf c code
 numberOf c (C.Start k waits) = startLineOf c k waits
-numberOf c (C.Order code) = 0
+numberOf c (C.Order code) = orderNumberOf c code
 numberOf c (C.Outputs v) = 0
 numberOf c (C.Read r) = 0
 
@@ -41,6 +55,6 @@ numberOf c (C.Read r) = 0
 abbrev pub turnedGiven : Hot → Bool → Hot
 turnedGiven h wrong = withFlag (withWatch h 0) 2 wrong
 
--- A line turned away by 10 to 17 zeroes the watch count; 14 sets bit 2.
+-- A line turned away by 10 to 17 or 26 zeroes the watch count; 14 sets bit 2.
 abbrev pub turnedOf : Controller → ℕ → Controller
 turnedOf c n = cond (ltb n 10) c (withHot c (turnedGiven (c .hot) (c .hot .flags .wrong || eqb n 14)))

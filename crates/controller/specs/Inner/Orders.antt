@@ -20,6 +20,7 @@ use Rattle.controller.specs.Inner.Parts.{
 use Rattle.controller.specs.Inner.Settings.{setAxisOf, setSettingOf, setOutputsOf}
 use Rattle.controller.specs.Inner.Numbers.{storesOf}
 use Rattle.controller.specs.Inner.Start.{begunOf}
+use Rattle.controller.specs.Inner.Carry.{carriedOf}
 
 -- The start with this master waits.
 abbrev pub obeyStartStored : Hot → ℕ → Hot
@@ -59,13 +60,14 @@ obeyResetOf c =
     withHot c (obeyResetGiven (c .hot)
     (c .hot .flags .emergency && activeAt (c .cold .settings .low) (c .cold .settings .high) (c .hot .inputs) 12))
 
--- Orders by their codes: 9 stop, A clear bit 2, B position reset.
+-- Orders by their codes: 9 stop, A clear bit 2, B position reset, C carry on.
 abbrev pub obeyOrderOf : Controller → ℕ → Controller
 obeyOrderOf c code =
     cond (eqb code 9) (obeyStopOf c)
     (cond (eqb code 10) (withHot c (withFlag (c .hot) 2 false))
     (cond (eqb code 11) (obeyResetOf c)
-    c))
+    (cond (eqb code 12) (withHot c (carriedOf (c .hot)))
+    c)))
 
 -- What an accepted command does. A reading alters nothing.
 abbrev pub doesOf : Controller → Command → Controller

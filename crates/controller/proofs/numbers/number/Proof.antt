@@ -25,17 +25,20 @@ enum-known-command-2 c = search needs
 start-line-requires : tie.Need-start-line-requires
 start-line-requires c κs = (
   axis _ (subst CommandFits (c .before .command2 .given .1) (c .before .before .before .pre .0)),
-  c .before .before .before .pre .1,
+  c .before .before .before .pre .1 .start,
 )
+
+enum-known-command-3 : tie.Need-enum-known-command-3
+enum-known-command-3 c = search needs
+
+order-number-requires : tie.Need-order-number-requires
+order-number-requires c κs = c .before .before .before .pre .1 .carry
 
 enum-told-2 : tie.Need-enum-told-2
 enum-told-2 c = search needs
 
 enum-told-3 : tie.Need-enum-told-3
 enum-told-3 c = search needs
-
-enum-told-4 : tie.Need-enum-told-4
-enum-told-4 c = search needs
 
 returns : tie.Need-returns
 returns c = c .rest-number .ensures ∙ sym
@@ -50,7 +53,8 @@ returns-3 c = c .start-line .ensures ∙ sym
     (ap (numberOf (c .before .before .before .before .args .c)) (c .before .before .command2 .given .1))
 
 returns-4 : tie.Need-returns-4
-returns-4 c = search needs
+returns-4 c = c .order-number .ensures ∙ sym
+    (ap (numberOf (c .before .before .before .before .args .c)) (c .before .before .command3 .given .1))
 
 returns-5 : tie.Need-returns-5
 returns-5 c = search needs
@@ -68,9 +72,10 @@ number-spec =
     setting-number-requires
     enum-known-command-2
     start-line-requires
+    enum-known-command-3
+    order-number-requires
     enum-told-2
     enum-told-3
-    enum-told-4
     returns
     returns-2
     returns-3

@@ -8,7 +8,7 @@ use Rattle.controller.specs.declared.state.Controller.{Controller}
 use Rattle.controller.proofs.EntryByteLaws.{
   byte-short,
   byte-judged,
-  heard-start,
+  heard-number,
   byte-gathered,
   byte-lined,
 }
@@ -45,7 +45,7 @@ lined-requires c κs =
           (q .args .self) (r .made)
           (c .before .before .before .before .before .before .before .before .before .if1 .left) _ k _
           (c .before .before .before .before .with-line .ensures) _ _ _ (c .before .before .heard .given .1),
-      heard-start (state (r .switch) (r .history)) (q .args .b) (now (q .args .buf)) (fits (r .switch) (r .history))
+      heard-number (state (r .switch) (r .history)) (q .args .b) (now (q .args .buf)) (fits (r .switch) (r .history))
           (q .args .self) (r .made)
           (c .before .before .before .before .before .before .before .before .before .if1 .left) _ k _
           (c .before .before .before .before .with-line .ensures),
