@@ -31,6 +31,8 @@ pub enum Command {
     ClearWrongMaster,
     /// Q B: position reset.
     ResetPositions,
+    /// Q C: carry on the latest move (paper 02, 6/14).
+    CarryOn,
     /// Q D: low-ON setting.
     LowOn(u32),
     /// Q E: high-ON setting.

@@ -1,5 +1,6 @@
 //! The controller: its state, power-on and the readings of its settings and counters.
 
+mod carry_on;
 mod receive;
 mod replies;
 mod settle;
@@ -86,8 +87,10 @@ pub struct Machine {
     /// Speed u in fiftieths of a unit.
     ramp_speed: u64,
     phase: u64,
-    /// Ticks of the latest move in which its ramp ran.
+    /// Ticks of the latest move in which its ramp ran, since its start or its last carry-on.
     move_ticks: u64,
+    /// A stop ended the latest move short of M; since then no distance line was accepted and no start took effect.
+    left_open: bool,
     positions: [i32; 5],
     /// Ticks left of the dwell.
     dwell: u32,
@@ -123,6 +126,7 @@ impl Machine {
             ramp_speed: 0,
             phase: 0,
             move_ticks: 0,
+            left_open: false,
             positions: [0; 5],
             dwell: 0,
             waiting: None,

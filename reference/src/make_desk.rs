@@ -2,6 +2,7 @@
 //! it has no headings.
 
 mod blocks;
+mod carry_on;
 mod commands;
 mod figures;
 pub(crate) mod lines;
@@ -29,6 +30,7 @@ pub fn desk_text() -> Vec<u8> {
     trials::trials(&mut lines);
     blocks::blocks(&mut lines);
     near_blocks::near_blocks(&mut lines);
+    carry_on::carry_on(&mut lines);
     sums::sums(&mut lines);
     misspelt::misspelt(&mut lines);
     odd_lines::lengths(&mut lines);

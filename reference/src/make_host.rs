@@ -1,5 +1,6 @@
 //! Stored vectors of the host end: the text of the stored input.
 
+mod carry_on;
 mod figures;
 mod other_forms;
 mod picker;
@@ -16,8 +17,10 @@ pub fn host_text() -> String {
     writer::orders_and_readings(&mut text);
     writer::identifications(&mut text);
     writer::line_buffers(&mut text);
+    writer::carry_ons(&mut text);
     reader::answers(&mut text);
     reader::capital_s(&mut text);
+    carry_on::blocks(&mut text);
     reader::positions_and_inputs(&mut text);
     reader::characters_of_blocks(&mut text);
     reader::lengths_of_blocks(&mut text);

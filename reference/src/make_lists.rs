@@ -1,5 +1,6 @@
 //! Stored lists: the text of the stored input.
 
+mod carry_on;
 mod crooked;
 pub(crate) mod drawn;
 mod emergency;
@@ -56,6 +57,7 @@ pub fn lists_text() -> String {
     entries::entries(&mut text);
     settle::settle(&mut text);
     largest_sums::largest_sums(&mut text);
+    carry_on::carry_on(&mut text);
     drawn::drawn_lists(&mut text);
     other_forms::other_forms(&mut text);
     text.ended()

@@ -1,6 +1,7 @@
 //! A dose on screen first: the text of the stored input of the program preview, one session from its power-on. Each of
 //! its lines is one that the program answers or a silent one, so it has no headings.
 
+mod carry_on;
 mod doses;
 mod drawn;
 mod dwells;
@@ -30,6 +31,7 @@ pub fn preview_text() -> Vec<u8> {
     doses::slow_doses(&mut session);
     under_way::under_way(&mut session);
     under_way::after_a_stop(&mut session);
+    carry_on::carry_on(&mut session);
     dwells::dwells(&mut session);
     dwells::stored_starts(&mut session);
     held_inputs::sensor(&mut session);

@@ -40,7 +40,9 @@ fn the_most_letters_in_common() {
     nearest("high", &["h", "help", "high"]);
     nearest("everything", &["e", "exit"]);
     nearest("inputs", &["i", "in", "inputs 0"]);
-    nearest("clear", &["c", "clr"]);
+    nearest("clear", &["c", "C", "clr", "continue", "cl on"]);
+    nearest("carry", &["carry", "ca", "CARRY ON", "Carry on", "carry On", "carry off", "carry on 0", "carryon"]);
+    nearest("carry", &["carry  on", "carry on ", "carry on\r", "carry as A", "silent carry", "silent carry off as B"]);
     nearest("reset", &["r", "R", "Reset", "resume"]);
     nearest("master", &["m", "mister"]);
     nearest("low", &["l", "Low 1"]);

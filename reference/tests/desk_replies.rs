@@ -25,11 +25,11 @@ fn every_answer() {
         let line = format!("U00000{number:02X}");
         let expected = match number {
             0 => "accepted\n".to_string(),
-            4..=17 => format!("turned away by {number}: {}\n", SENTENCES[number - 1]),
+            4..=17 | 26 => format!("turned away by {number}: {}\n", SENTENCES[number - 1]),
             _ => NO_BLOCK.to_string(),
         };
         assert_eq!(answer(line.as_bytes()), expected);
-        if matches!(number, 0 | 8..=17) {
+        if matches!(number, 0 | 8..=17 | 26) {
             let marked = format!("{} (as C)\n", expected.trim_end());
             assert_eq!(answer(format!("{line}C").as_bytes()), marked);
         } else {
@@ -69,6 +69,8 @@ fn echoes() {
         told(&[(&format!("S08{:X}FFFF", master + 8), &format!("accepted: start {master} after dwell"))]);
     }
     told(&[("S09FFFFF", "accepted: stop"), ("S0A12345F", "accepted: clear (as F)"), ("S0BABCDE", "accepted: reset")]);
+    told(&[("S0C00000", "accepted: carry on"), ("S0CFFFFFE", "accepted: carry on (as E)")]);
+    told(&[("S9C12345", "accepted: carry on (switch 9)")]);
     told(&[("S0D033FF", "accepted: low 0033FF"), ("S0E02001", "accepted: high 002001")]);
     told(&[("SFE00000", "accepted: high 000000 (switch F)"), ("SB900000B", "accepted: stop (switch B) (as B)")]);
 }
@@ -88,7 +90,9 @@ fn every_switch_digit() {
 #[test]
 fn lines_that_begin_as_a_block_and_are_none() {
     no_blocks(&["U0", "U000000", "U00000000A", "U0000000a", "U0000000 ", "U0000000 as A", "U000000e", "U0000001"]);
-    no_blocks(&["S0500000", "S0700000", "S0C00000", "S0850000", "S08D0000", "S0D00400", "S0E04000", "S0b00000"]);
+    no_blocks(&[
+        "S0500000", "S0700000", "S0c00000", "S0F00000", "S0850000", "S08D0000", "S0D00400", "S0E04000", "S0b00000",
+    ]);
     no_blocks(&["s0500000", "s0600000", "s00fffff", "R000000", "R0abcdef", "RC000000", "RESET", "SEE", "U0000000\r"]);
     no_blocks(&[&format!("U{}", "0".repeat(98))]);
 }

@@ -43,14 +43,16 @@ fn run_list(seed: u64, lines: u32) -> Followed {
     followed
 }
 
-/// Demand 3, and the entry of every move: ticks, cause and travels as the answers since its start tell them. The block
-/// of a W line in the 2,500th accepted tick after it, and in no other.
+/// Demand 3, and the entry of every end: ticks since the start or the last carry-on, cause, and travels as the answers
+/// since the start tell them, stopped and carried on or not. The block of a W line in the 2,500th accepted tick after
+/// it, and in no other.
 #[test]
 fn lists_keep_demand_3_and_answer_entries_and_blocks() {
-    let (mut starts, mut blocks, mut replaced, mut moves) = (0, 0, 0, Vec::new());
+    let (mut starts, mut carry_ons, mut blocks, mut replaced, mut moves) = (0, 0, 0, 0, Vec::new());
     for seed in 1..=50u64 {
-        let followed = run_list(seed.wrapping_mul(0x9E37_79B9_7F4A_7C15), 400);
+        let followed = run_list(seed.wrapping_mul(0x9E37_79B9_7F4A_7C15), 500);
         starts += followed.starts;
+        carry_ons += followed.carry_ons;
         blocks += followed.settled.blocks;
         replaced += followed.settled.replaced;
         moves.extend(followed.ended);
@@ -62,4 +64,7 @@ fn lists_keep_demand_3_and_answer_entries_and_blocks() {
     assert!(blocks > 200 && replaced > 20, "{blocks} {replaced}");
     assert_eq!(refused, moves.len());
     assert!(moves.len() - whole > 100);
+    let carried = moves.iter().filter(|(ended, _)| ended.carried > 1).count();
+    let carried_whole = moves.iter().filter(|(ended, entry)| ended.carried > 0 && entry.cause == 0).count();
+    assert!(carry_ons > 100 && carried > 20 && carried_whole > 20, "{carry_ons} {carried} {carried_whole}");
 }

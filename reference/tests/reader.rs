@@ -21,7 +21,7 @@ fn answers() {
         for identified in [false, true] {
             let tail = if identified { "A\r" } else { "\r" };
             let text = format!("U0{number:06X}{tail}");
-            let taken = number == 0 || (8..=17).contains(&number) || ((4..=7).contains(&number) && !identified);
+            let taken = matches!(number, 0 | 8..=17 | 26) || ((4..=7).contains(&number) && !identified);
             let expected = if taken { Ok(Reading::Answer { number: number as u8 }) } else { Err(20) };
             assert_eq!(reading(text.as_bytes()), expected, "{text}");
         }
@@ -57,9 +57,11 @@ fn echoes() {
     assert_eq!(reading(b"S09FFFFF\r"), Ok(Reading::Echo { code: 9, five: 0xFFFFF }));
     assert_eq!(reading(b"S0A00001\r"), Ok(Reading::Echo { code: 0xA, five: 1 }));
     assert_eq!(reading(b"S0BABCDE\r"), Ok(Reading::Echo { code: 0xB, five: 0xABCDE }));
+    assert_eq!(reading(b"S0C00000\r"), Ok(Reading::Echo { code: 0xC, five: 0 }));
+    assert_eq!(reading(b"SACFFFFFB\r"), Ok(Reading::Echo { code: 0xC, five: 0xFFFFF }));
     assert_eq!(reading(b"S0D033FF\r"), Ok(Reading::Echo { code: 0xD, five: 0x33FF }));
     no_blocks(&["S0850000\r", "S08D0000\r", "S0D00400\r", "S0E04000\r"]);
-    no_blocks(&["S0500000\r", "S0700000\r", "S0C00000\r", "S0F00000\r"]);
+    no_blocks(&["S0500000\r", "S0700000\r", "S0c00000\r", "S0F00000\r"]);
 }
 
 #[test]

@@ -49,7 +49,7 @@ fn number_7() {
 #[test]
 fn number_8() {
     let mut machine = on();
-    let texts = ["P0", "Q0", "q0", "P05", "P06", "P07", "P0D", "P0E", "P0f", "Q05", "Q07", "Q0c", "Q0F"];
+    let texts = ["P0", "Q0", "q0", "P05", "P06", "P07", "P0D", "P0E", "P0f", "Q05", "Q07", "q0c", "Q0F"];
     refused_each(&mut machine, &texts, 8, "U0000008");
     let texts = ["q05", "q06", "q07", "q09", "q0A", "q0B", "q0C", "q0D", "q0E", "q0F"];
     refused_each(&mut machine, &texts, 8, "U0000008");
@@ -82,9 +82,10 @@ fn number_10() {
 #[test]
 fn number_11() {
     let mut machine = under_way(0);
-    let texts = ["P0000001", "P0180001", "P0900010", "P0A00001", "P0B0", "P0C00001", "Q080", "Q088", "Q08C"];
+    let texts =
+        ["P0000001", "P0180001", "P0900010", "P0A00001", "P0B0", "P0C00001", "Q080", "Q088", "Q08C", "Q0C", "Q0CABC"];
     refused_each(&mut machine, &texts, 11, "U000000B");
     refused_each(&mut machine, &["P0900000"], 10, "U000000A");
-    refused_each(&mut machine, &["Q0810000F"], 11, "U000000BF");
+    refused_each(&mut machine, &["Q0810000F", "Q0C12345F"], 11, "U000000BF");
     accept(&mut machine, &["P0800064", "Q0D00000", "W0000001", "Q0B", "Q0A", "Q09"]);
 }

@@ -155,7 +155,7 @@ fn full_and_decided(list: &List) -> (bool, bool) {
 }
 
 /// Headings of the lists that fill the count though the power-on watch decides nothing: they set the watch themselves.
-const SET_BY_LINES: [&str; 7] = [
+const SET_BY_LINES: [&str; 9] = [
     "Watch 3",
     "Watch 1",
     "P0B0 first: the",
@@ -163,6 +163,8 @@ const SET_BY_LINES: [&str; 7] = [
     "P0B00000 first",
     "P4B0 first",
     "Settled inputs: the watch clears",
+    "Carry-ons: stopped by the watch",
+    "Carry-ons: a stored start that a full watch",
 ];
 
 /// Headings of the lists that the power-on watch decides.

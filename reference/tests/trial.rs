@@ -144,7 +144,7 @@ fn drawn_controllers() {
     for seed in 1..=120u64 {
         let mut sequence = Sequence(seed.wrapping_mul(0x9E37_79B9_7F4A_7C15));
         let mut machine = Machine::power_on(seed as u8 % 16).0;
-        for _ in 0..60 {
+        for _ in 0..90 {
             line(&mut machine, &drawn_line(&mut sequence, [40, 0, 0, 0, 0]));
             let word = (sequence.draw() | sequence.draw()) as u32 & 0xFFFFFF;
             (0..sequence.below(400)).for_each(|_| _ = one_tick(&mut machine, word));

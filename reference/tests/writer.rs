@@ -4,7 +4,7 @@ use reference::line::read_line;
 use reference::{pick_master, write_line, Command, CommandValue};
 
 /// Every command with its full line.
-const FULL_LINES: [(Command, &[u8]); 19] = [
+const FULL_LINES: [(Command, &[u8]); 20] = [
     (Command::Distance { axis: 2, minus: true, pulses: 5_000 }, b"P0281388\r"),
     (Command::Speed(1_000_000), b"P08F4240\r"),
     (Command::Slope(4_095), b"P0900FFF\r"),
@@ -18,6 +18,7 @@ const FULL_LINES: [(Command, &[u8]); 19] = [
     (Command::Stop, b"Q0900000\r"),
     (Command::ClearWrongMaster, b"Q0A00000\r"),
     (Command::ResetPositions, b"Q0B00000\r"),
+    (Command::CarryOn, b"Q0C00000\r"),
     (Command::LowOn(0x33FF), b"Q0D033FF\r"),
     (Command::HighOn(0x1000), b"Q0E01000\r"),
     (Command::ReadPosition { axis: 3 }, b"q0300000\r"),

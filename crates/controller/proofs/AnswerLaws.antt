@@ -87,7 +87,7 @@ count-held s p (stretch bs r ∷ l) f k h =
     count-held s p l (f .0) k h
     ∙ sym (by-characters (λ (x : List Call). counted s x k) (counted-before s k) bs (callsOf l))
 
-sum-held : (s : ℕ) (p : PowerOn) (l : List Answered) → Follows s p l → (k : ℕ) → k < 5
+pub sum-held : (s : ℕ) (p : PowerOn) (l : List Answered) → Follows s p l → (k : ℕ) → k < 5
     → sumIn s l k ≡ signed s (callsOf l) k
 unfolding sumIn signed
 sum-held s p [] f k h = refl

@@ -20,6 +20,7 @@ pub mod ReachLaws
 pub mod GatherLaws
 pub mod AnswerLaws
 pub mod JournalAnswerLaws
+pub mod CarryAnswerLaws
 pub mod SettleAnswerLaws
 pub mod FrontLaws
 mod PositionLaws

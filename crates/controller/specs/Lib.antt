@@ -2,5 +2,6 @@ pub mod Held
 pub mod Reach
 pub mod Answers
 pub mod Journal
+pub mod Carry
 pub mod Settle
 pub mod Inner

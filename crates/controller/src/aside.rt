@@ -4,10 +4,20 @@ ghost use mathlib.Core.List.{[]};
 ghost use mathlib.Core.Path.{_≡_};
 ghost use Rattle.machine.specs.State.{withLine};
 ghost use Rattle.controller.specs.Held.{held};
+ghost use Rattle.controller.specs.Inner.Power.{withLineOf};
 ghost use Rattle.controller.specs.Reach.{Reachable, Made};
 use crate::state::Controller;
-use crate::with_line;
 use receiver::Receiver;
+
+// The controller with the characters received so far.
+pub(crate) fn with_line(c: Controller, line: Receiver) -> Controller
+    ensures { λ r. ⌜ r ≡ withLineOf c line ⌝ }
+{
+    let hot = c.hot;
+    let mut cold = c.cold;
+    cold.line = line;
+    Controller { hot, cold }
+}
 
 impl Controller {
     // The controller as it is, but for the characters since the last 0D, of which it has none.

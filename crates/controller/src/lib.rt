@@ -4,21 +4,23 @@
 // the only premise is that the controller is reachable. Assumes nothing.
 ghost use mathlib.Core.Path.{_≡_};
 ghost use Rattle.block.specs.Block.{frontOf};
+ghost use Rattle.machine.specs.Carry.{CarryOn};
 ghost use Rattle.machine.specs.Demand.{Demand3};
 ghost use Rattle.machine.specs.Journal.{Journal};
 ghost use Rattle.machine.specs.Marked.{Marked};
 ghost use Rattle.machine.specs.Settle.{Settles};
 ghost use Rattle.machine.specs.Watch.{Watch};
 ghost use Rattle.witness.specs.Blocks.{BlockWitness};
+ghost use Rattle.witness.specs.Carried.{CarryWitness};
 ghost use Rattle.witness.specs.Entries.{EntryWitness};
 ghost use Rattle.witness.specs.Witness.{Witness};
 ghost use Rattle.controller.specs.Held.{heldPower};
 ghost use Rattle.controller.specs.Reach.{Reachable};
 ghost use Rattle.controller.specs.Answers as answered;
 ghost use Rattle.controller.specs.Answers.{ReplyIn, BlockIn, Promised, Demand3Answers};
+ghost use Rattle.controller.specs.Carry.{CarryAnswers};
 ghost use Rattle.controller.specs.Journal.{JournalAnswers};
 ghost use Rattle.controller.specs.Settle.{SettlesAnswers};
-ghost use Rattle.controller.specs.Inner.Power.{withLineOf};
 pub use crate::state::ByteAnswer;
 pub use crate::state::Controller;
 pub use crate::state::Gathered;
@@ -27,7 +29,6 @@ pub use crate::state::TickAnswer;
 pub use crate::turned::LAST_WORD;
 use block::REPLY_ROOM;
 use receiver::Heard;
-use receiver::Receiver;
 
 mod aside;
 mod carry;
@@ -53,8 +54,8 @@ mod words;
 // the gate keeps them: they speak of the machine whose held values every entry answers. The same theorem over the
 // answers of these entries themselves stands beside it (`Demand3Answers`). So do the two about the journal's entries
 // (`Journal`, `JournalAnswers`), with computed ones (`EntryWitness`), the one about the watch that is on from here
-// (`Watch`), and the two about the blocks of W lines (`Settles`, `SettlesAnswers`), with computed ones
-// (`BlockWitness`).
+// (`Watch`), the two about the blocks of W lines (`Settles`, `SettlesAnswers`), with computed ones (`BlockWitness`), and
+// the two about carry-ons (`CarryOn`, `CarryAnswers`), with a computed one (`CarryWitness`).
 pub fn power_on(switch: u8) -> PowerOn
     ensures { λ r. ⌜ r ≡ heldPower switch ⌝ }
     ensures { λ _. ⌜ Demand3 ⌝ }
@@ -68,6 +69,9 @@ pub fn power_on(switch: u8) -> PowerOn
     ensures { λ _. ⌜ Settles ⌝ }
     ensures { λ _. ⌜ SettlesAnswers ⌝ }
     ensures { λ _. ⌜ BlockWitness ⌝ }
+    ensures { λ _. ⌜ CarryOn ⌝ }
+    ensures { λ _. ⌜ CarryAnswers ⌝ }
+    ensures { λ _. ⌜ CarryWitness ⌝ }
     ensures { λ r. ⌜ Reachable (r .controller) ⌝ }
 {
     if power::is_bad(switch) {
@@ -94,16 +98,6 @@ pub fn front(buf: &[u8], n: usize) -> &[u8]
     block::front(buf, n)
 }
 
-// The controller with the characters received so far.
-fn with_line(c: Controller, line: Receiver) -> Controller
-    ensures { λ r. ⌜ r ≡ withLineOf c line ⌝ }
-{
-    let hot = c.hot;
-    let mut cold = c.cold;
-    cold.line = line;
-    Controller { hot, cold }
-}
-
 impl Controller {
     // A received byte, with the buffer lent for a reply: the answer and the whole buffer are the machine's.
     pub fn byte(self, buf: &mut [u8], b: u8) -> ByteAnswer
@@ -122,7 +116,7 @@ impl Controller {
         let taken = line.take(b);
         let next = taken.next;
         let heard = taken.heard;
-        let controller = with_line(self, next);
+        let controller = aside::with_line(self, next);
         match heard {
             Heard::Character => ByteAnswer {
                 controller,
@@ -146,7 +140,7 @@ impl Controller {
         let line = self.cold.line;
         let gathered = line.gather(bytes);
         let next = gathered.next;
-        let controller = with_line(self, next);
+        let controller = aside::with_line(self, next);
         Gathered {
             controller,
             count: gathered.count,

@@ -80,7 +80,7 @@ unfolding judgeRow
 accepts (C.Distance k minus d) h q = let t = distance k minus d h in accept-distance k minus d (t .0) (t .1)
 accepts (C.Set k v) h q = accept-setting k v h
 accepts (C.Start k waits) h q = accept-start k waits (axis k h)
-accepts (C.Order k) h q = by-order (λ (c : ℕ). Taken (C.Order c)) refl refl refl k h
+accepts (C.Order k) h q = by-order (λ (c : ℕ). Taken (C.Order c)) refl refl refl refl k h
 accepts (C.Outputs v) h q = rw h
 accepts (C.Read r) h q = accept-reading r h q
 
@@ -96,7 +96,7 @@ digits-fit (C.Set k v) h =
 digits-fit (C.Start k true) h = let t = axis k h in omega arith
 digits-fit (C.Start k false) h = let t = axis k h in omega arith
 digits-fit (C.Order k) h =
-    by-order (λ (c : ℕ). digitsOf (C.Order c) < sixDigits) (omega arith) (omega arith) (omega arith) k h
+    by-order (λ (c : ℕ). digitsOf (C.Order c) < sixDigits) (omega arith) (omega arith) (omega arith) (omega arith) k h
 digits-fit (C.Outputs v) h = outputs v h
 digits-fit (C.Read (R.Travel k)) h = let t = axis k h in omega arith
 digits-fit (C.Read (R.Position k)) h = let t = axis k h in omega arith

@@ -22,6 +22,9 @@ named = record { silent = false; command = C.Read R.Inputs; ident = Given 49 }
 abbrev minusZero : Request
 minusZero = record { silent = true; command = C.Distance 0 true 0; ident = Given 55 }
 
+abbrev carryOn : Request
+carryOn = record { silent = false; command = C.Order 12; ident = Absent }
+
 abbrev tooFast : Request
 tooFast = record { silent = false; command = C.Set 8 1000001; ident = Absent }
 
@@ -31,6 +34,7 @@ pub record Examples : Type 0 where
   pub query-named : writtenOf named (replicate 10 7) ≡ refused 19
   pub minus-zero : lineOf minusZero ≡ chars "P40800007" ++ (13 ∷ [])
   pub minus-zero-length : writtenOf minusZero (replicate 12 7) ≡ line 10
+  pub carry-on : lineOf carryOn ≡ chars "Q0C00000" ++ (13 ∷ [])
   pub short-first : writtenOf tooFast (replicate 9 7) ≡ refused 18
   pub too-fast : writtenOf tooFast (replicate 10 7) ≡ refused 19
   pub lowest-of-equals : masterOf (5 ∷ 9 ∷ 0 ∷ 9 ∷ 9 ∷ []) ≡ 1
@@ -45,6 +49,7 @@ examples =
       query-named = refl;
       minus-zero = refl;
       minus-zero-length = refl;
+      carry-on = refl;
       short-first = refl;
       too-fast = refl;
       lowest-of-equals = refl;

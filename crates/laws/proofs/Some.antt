@@ -3,6 +3,7 @@
 use Prim.Native.Nat.{ℕ, _<_}
 use mathlib.Core.Bool.{Bool, true, false, _||_}
 use mathlib.Core.Path.{_≡_}
+use native.Mathlib.Omega.{arith}
 use Rattle.laws.specs.Axes.{some}
 use Rattle.laws.proofs.Five.{five}
 use Rattle.laws.proofs.Tests.{neither}
@@ -30,3 +31,8 @@ module _ (f : ℕ → Bool) where
       let c = neither (f 0 || f 1) (f 2) (b .0) in
       let d = neither (f 0) (f 1) (c .0) in
       five (λ (k : ℕ). f k ≡ false) (d .0) (d .1) (c .1) (b .1) (a .1)
+
+-- What holds of one of them, by what holds of each.
+pub some-same : (f g : ℕ → Bool) → ((k : ℕ) → k < 5 → f k ≡ g k) → some f ≡ some g
+some-same f g e i =
+    e 0 (omega arith) i || e 1 (omega arith) i || e 2 (omega arith) i || e 3 (omega arith) i || e 4 (omega arith) i

@@ -11,6 +11,7 @@ use lib.IntN.{ℤ, _+ℤ_}
 use Rattle.laws.specs.Axes.{some, directed}
 use Rattle.laws.specs.Bits.{bit}
 use Rattle.laws.proofs.Pick.{by-bool, by-eq}
+use Rattle.laws.proofs.Some.{some-same}
 use Rattle.digits.specs.declared.Ident.{Ident}
 use Rattle.line.specs.declared.command.Command.the-variants as C
 use Rattle.inputs.specs.Inputs.{blockedAt}
@@ -37,11 +38,6 @@ use Rattle.machine.proofs.JournalLaws.{ticks-run}
 use Rattle.machine.proofs.ShortLaws.{short-is}
 
 -- ---- The number
-
--- What holds of one of five axes, by what holds of each.
-some-same : (f g : ℕ → Bool) → ((k : ℕ) → k < 5 → f k ≡ g k) → some f ≡ some g
-some-same f g e i =
-    e 0 (omega arith) i || e 1 (omega arith) i || e 2 (omega arith) i || e 3 (omega arith) i || e 4 (omega arith) i
 
 module _ (s : ℕ) (h : List Call) where
   abbrev m : Machine

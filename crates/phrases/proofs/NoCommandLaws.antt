@@ -1,4 +1,4 @@
--- The words behind `reset` in the table, those with an answer of their own, mean no command, whatever follows them.
+-- The words behind `carry` in the table, those with an answer of their own, mean no command, whatever follows them.
 -- Assumes nothing.
 use Prim.Native.Nat.{ℕ, _≤_, _<_}
 use native.Mathlib.Omega.{arith}
@@ -43,7 +43,8 @@ module _ (k : ℕ) (h : K.opening ≤ k) where
   figure-none (F.Quarters q) = rw (lt-ltb 10 k (omega arith))
 
   single-none : (w : List ℕ) → Unmeant (singleOf k w)
-  single-none w = rw (le-ltb k 5 (omega arith), le-ltb k 9 (omega arith)) (figure-none (figureOf w))
+  single-none w =
+      rw (other 18 (omega arith), le-ltb k 5 (omega arith), le-ltb k 9 (omega arith)) (figure-none (figureOf w))
 
   pair-none : (a d : List ℕ) → Unmeant (pairOf k a d)
   pair-none a d = rw (other 11 (omega arith))

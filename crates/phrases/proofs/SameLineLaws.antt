@@ -77,16 +77,16 @@ module _ (l : List ℕ) (c : Command) (e : meantBy (bodyOf l) ≡ M.Command c) w
   placed : (k : ℕ) → k < K.opening → textAt k l ≡ commandText l
   placed k h =
       rw (
-        ne-eqb k 18 (λ (q : k ≡ 18). omega arith),
         ne-eqb k 19 (λ (q : k ≡ 19). omega arith),
         ne-eqb k 20 (λ (q : k ≡ 20). omega arith),
         ne-eqb k 21 (λ (q : k ≡ 21). omega arith),
+        ne-eqb k 22 (λ (q : k ≡ 22). omega arith),
       )
 
   taken : (t : Bool) → isSilent l ≡ t → textAt (placeOf (word 0 l)) l ≡ commandText l
   taken true s = ap (λ (k : ℕ). textAt k l) (ap placeOf (silent-first l s) ∙ silent-place)
   taken false s =
-      by-lt {A = ℕ} (λ (x : ℕ). textAt (placeOf (word 0 l)) l ≡ commandText l) (placeOf (word 0 l)) 18 0 0
+      by-lt {A = ℕ} (λ (x : ℕ). textAt (placeOf (word 0 l)) l ≡ commandText l) (placeOf (word 0 l)) 19 0 0
       (placed (placeOf (word 0 l))) (λ h. absurd (early s h))
 
   commanded : wordsText l ≡ commandText l

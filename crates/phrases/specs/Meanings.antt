@@ -98,12 +98,19 @@ withFigure k F.Not = M.Nothing
 withFigure k F.Inexact = inexactMeant k
 withFigure k (F.Quarters q) = quartersMeant k q
 
--- Which kind of number follows a word: decimal before `polarity`, hexadecimal before `speed`, else a figure.
+-- ---- `carry` and `on`: the order C (paper 02, 6/14)
+
+abbrev pub carryOf : List ℕ → Meant
+carryOf w = cond (same w (chars "on")) (M.Command (C.Order 12)) M.Nothing
+
+-- Two words. What follows `carry` is no number; else the kind of number: decimal before `polarity`, hexadecimal before
+-- `speed`, else a figure.
 abbrev pub singleOf : ℕ → List ℕ → Meant
 singleOf k w =
-    cond (ltb k K.polarity) (withDecimal k (spelledOf 10 w))
+    cond (eqb k K.carry) (carryOf w)
+    (cond (ltb k K.polarity) (withDecimal k (spelledOf 10 w))
     (cond (ltb k K.speed) (withHexadecimal k (spelledOf 16 w))
-    (withFigure k (figureOf w)))
+    (withFigure k (figureOf w))))
 
 -- ---- `distance`, an axis, a distance whose minus sign is the direction
 

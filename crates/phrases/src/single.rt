@@ -1,4 +1,5 @@
-// What a word and a number or a figure behind it mean as a command (docs/PROTOCOL.md, "From words"). Assumes nothing.
+// What a word and a number, a figure or `on` behind it mean as a command (docs/PROTOCOL.md, "From words").
+// Assumes nothing.
 ghost use mathlib.Core.Path.{_≡_};
 ghost use Rattle.figures.specs.Figures.{askedOf};
 ghost use Rattle.phrases.specs.Meanings.{
@@ -11,6 +12,7 @@ ghost use Rattle.phrases.specs.Meanings.{
   quartersMeant,
   inexactMeant,
   withFigure,
+  carryOf,
   singleOf,
 };
 use crate::meaning::Meant;
@@ -21,6 +23,7 @@ use line::command::Reading;
 use numerals::Figure;
 use numerals::Spelled;
 use sentences::places;
+use text::parts;
 
 // "Turned away" 21.
 const NOT_EXACT: u8 = 21;
@@ -146,10 +149,23 @@ fn with_figure(k: usize, figure: Figure) -> Meant
     }
 }
 
+// `carry` and the word `on`.
+fn carry(w: &[u8]) -> Meant
+    ensures { λ r. ⌜ r ≡ carryOf (now (w .entry)) ⌝ }
+{
+    if parts::same(w, b"on") {
+        return Meant::Command(Command::Order(12));
+    }
+    Meant::Nothing
+}
+
 // Two words.
 pub(crate) fn single(k: usize, w: &[u8]) -> Meant
     ensures { λ r. ⌜ r ≡ singleOf k (now (w .entry)) ⌝ }
 {
+    if k == places::CARRY {
+        return carry(w);
+    }
     if k < places::POLARITY {
         let decimal = numerals::read_decimal(w);
         return with_decimal(k, decimal);

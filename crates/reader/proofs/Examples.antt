@@ -20,11 +20,15 @@ use Rattle.reader.specs.Reader.{
 
 pub record Examples : Type 0 where
   pub thirteen : readOf (chars "U000000D" ++ (13 ∷ [])) ≡ verdict 0 13 Absent
+  pub twenty-six : readOf (chars "U000001AB" ++ (13 ∷ [])) ≡ verdict 0 26 (Given 66)
+  pub twenty-five : readOf (chars "U0000019" ++ (13 ∷ [])) ≡ refused 20
+  pub twenty-seven : readOf (chars "U000001B" ++ (13 ∷ [])) ≡ refused 20
   pub eighteen : readOf (chars "U0000012" ++ (13 ∷ [])) ≡ refused 20
   pub three : readOf (chars "U0000003" ++ (13 ∷ [])) ≡ refused 20
   pub five-named : readOf (chars "U0000005A" ++ (13 ∷ [])) ≡ refused 20
   pub eight-named : readOf (chars "U0000008A" ++ (13 ∷ [])) ≡ verdict 0 8 (Given 65)
   pub start : readOf (chars "S0812AB0" ++ (13 ∷ [])) ≡ echo 0 0x812AB0 Absent
+  pub carry-on : readOf (chars "S0C12300" ++ (13 ∷ [])) ≡ echo 0 0xC12300 Absent
   pub no-code : readOf (chars "S0700000" ++ (13 ∷ [])) ≡ refused 20
   pub no-switch : readOf (chars "SC600000" ++ (13 ∷ [])) ≡ refused 20
   pub status-over : readOf (chars "S0600080" ++ (13 ∷ [])) ≡ refused 20
@@ -41,11 +45,15 @@ unfolding readOf fieldsIn numberOf
 examples =
     record {
       thirteen = refl;
+      twenty-six = refl;
+      twenty-five = refl;
+      twenty-seven = refl;
       eighteen = refl;
       three = refl;
       five-named = refl;
       eight-named = refl;
       start = refl;
+      carry-on = refl;
       no-code = refl;
       no-switch = refl;
       status-over = refl;

@@ -51,7 +51,8 @@ order-echoed k n =
     by-order (λ (c : ℕ). code n ≡ c → EchoFits n)
     (λ e. echo-of n 9 e (omega arith) (λ q. omega arith) (rw e))
     (λ e. echo-of n 10 e (omega arith) (λ q. omega arith) (rw e))
-    (λ e. echo-of n 11 e (omega arith) (λ q. omega arith) (rw e)) k
+    (λ e. echo-of n 11 e (omega arith) (λ q. omega arith) (rw e))
+    (λ e. echo-of n 12 e (omega arith) (λ q. omega arith) (rw e)) k
 
 echoed : (c : Command) (n : ℕ) → CommandFits c → OrderFits c n → Echoed c n
 echoed (C.Distance k minus d) n h f = always

@@ -36,6 +36,7 @@ use Rattle.reader.specs.Reader.{
 use Rattle.reader.specs.Blocks.{Framed, VerdictFits, InRange, spelling, Says, Spelt, BlocksRead}
 use Rattle.reader.proofs.ReadLaws.{too-long}
 use Rattle.reader.proofs.EchoLaws.{echo-taken}
+use Rattle.reader.proofs.VerdictLaws.{turned-most}
 use Rattle.reader.proofs.BlockLaws.{
   verdict-read,
   travel-read,
@@ -108,7 +109,7 @@ only-blocks (a ∷ b ∷ c1 ∷ c2 ∷ c3 ∷ c4 ∷ c5 ∷ c6 ∷ y ∷ z ∷ x
 number-low : (n : ℕ) (ident : Ident) → VerdictFits n ident → n < sixDigits
 number-low n ident f =
     by-bool (λ (x : Bool). n < sixDigits) (eqb n 0) true false (λ e. let z = eqb-true n 0 e in omega arith)
-    (λ e. let h = f (eqb-false n 0 e) .high in omega arith)
+    (λ e. let h = turned-most n (f (eqb-false n 0 e) .high) in omega arith)
 
 block-is : (f : Figures) → InRange f → readOf (spelling f) ≡ f
 block-is (refused n) h = absurd h

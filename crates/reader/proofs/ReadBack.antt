@@ -1,6 +1,6 @@
 -- The round trip of replies: whatever calls a controller has had, the reply to each byte is blocks one behind the
 -- other, and the reader gives of each the figures that it was made from. Assumes nothing.
-use Prim.Native.Nat.{ℕ, _≤_}
+use Prim.Native.Nat.{ℕ}
 use native.Mathlib.Omega.{arith}
 use mathlib.Core.Bool.{Bool, true, false, cond}
 use mathlib.Core.List.{List, []}
@@ -42,7 +42,7 @@ use Rattle.reader.specs.Reader.{Figures}
 use Rattle.reader.specs.ReadBack.{saidOf, ReadsAs, RepliesRead}
 use Rattle.reader.proofs.LineLaws.{Tells, line-tells}
 use Rattle.reader.proofs.KeptLaws.{Kept, kept}
-use Rattle.reader.proofs.NumberLaws.{number-late}
+use Rattle.reader.proofs.NumberLaws.{Known, known, number-late}
 use Rattle.reader.proofs.ReplyLaws.{none-read, reply-reads, refusal-reads}
 use Rattle.reader.proofs.TickReadBack.{tick-read}
 
@@ -55,21 +55,20 @@ unless-silent false r = r
 abbrev Said : Machine → ℕ → Outcome → Type 0
 Said m b o = ReadsAs (answered m b o .reply) (saidOf m (m .inputs) o)
 
-refused-said : (m : Machine) (b n : ℕ) (silent : Bool) (ident : Ident) → Kept m → 4 ≤ n → n ≤ 17
+refused-said : (m : Machine) (b n : ℕ) (silent : Bool) (ident : Ident) → Kept m → Known n
     → identFits (refusalIdent n ident) ≡ true → Said m b (refused n silent ident)
-refused-said m b n silent ident k h l e = unless-silent silent (refusal-reads m n ident k h l e)
+refused-said m b n silent ident k h e = unless-silent silent (refusal-reads m n ident k h e)
 
 decided-said : (m : Machine) (b : ℕ) (silent : Bool) (ident : Ident) (j : Judged) → Fits m → Kept m → JudgedFits j
     → Tells ident j → Said m b (decided m silent ident j)
 decided-said m b silent ident (Refused n) f k h t =
-    let x = h .0 in
     let y = h .1 in
-    refused-said m b n silent ident k x (omega arith) t
+    refused-said m b n silent ident k (known n (h .0) (omega arith)) t
 decided-said m b silent ident (Accepted c n) f k h t =
     by-bool (Said m b) (eqb (number m c) 0) (accepted c n silent ident) (refused (number m c) silent ident)
     (λ _. unless-silent silent (reply-reads m f k ident (t .named) c n (h .command) (h .digits) (t .digits)))
-    (λ q. let l = number-late m c (eqb-false (number m c) 0 q) in
-    refused-said m b (number m c) silent ident k (l .0) (l .1) (named-late ident (number m c) (t .named)))
+    (λ q. refused-said m b (number m c) silent ident k (number-late m c (eqb-false (number m c) 0 q))
+    (named-late ident (number m c) (t .named)))
 
 heard-said : (m : Machine) (b : ℕ) → Fits m → Kept m → Said m b (outcomeOf m (receive (m .line) b .heard))
 heard-said m b f k =

@@ -1,6 +1,6 @@
 -- The replies of a machine, block by block: the reader gives of each the figures that it was made from. Assumes
 -- nothing.
-use Prim.Native.Nat.{ℕ, _≤_, _<_}
+use Prim.Native.Nat.{ℕ, _<_}
 use native.Mathlib.Omega.{arith}
 use mathlib.Core.Bool.{Bool, true, false, _||_}
 use mathlib.Core.List.{List, [], _∷_, append-assoc, append-nil}
@@ -63,7 +63,8 @@ use Rattle.reader.proofs.BlockLaws.{
 }
 use Rattle.reader.proofs.LineLaws.{Echoed}
 use Rattle.reader.proofs.KeptLaws.{Kept}
-use Rattle.reader.proofs.NumberLaws.{refusal-fits}
+use Rattle.reader.proofs.NumberLaws.{Known, refusal-fits}
+use Rattle.reader.proofs.VerdictLaws.{turned-most}
 
 -- ---- one block, and none
 
@@ -137,7 +138,8 @@ module _ (m : Machine) (f : Fits m) (k : Kept m) (ident : Ident) (named : identF
   unfolding rowOf
   twelve-row = simp (append-assoc, append-nil)
 
-  all-read : ReadsAs (rowOf 12 letters (numbers (toldOf m)) (m .switch) ident) (saidFor m (m .inputs) R.Everything ident)
+  all-read : ReadsAs (rowOf 12 letters (numbers (toldOf m)) (m .switch) ident)
+      (saidFor m (m .inputs) R.Everything ident)
   all-read = record {
     blocks = twelve;
     whole = twelve-row;
@@ -178,10 +180,10 @@ module _ (m : Machine) (f : Fits m) (k : Kept m) (ident : Ident) (named : identF
   reply-reads (C.Read r) n h low e = reading-reads r h
 
 -- The reply to a turned-away line.
-pub refusal-reads : (m : Machine) (n : ℕ) (ident : Ident) → Kept m → 4 ≤ n → n ≤ 17
+pub refusal-reads : (m : Machine) (n : ℕ) (ident : Ident) → Kept m → Known n
     → identFits (refusalIdent n ident) ≡ true
     → ReadsAs (refusal m n ident) (verdict (m .switch) n (refusalIdent n ident) ∷ [])
 unfolding refusalOf
-refusal-reads m n ident k h l e =
-    one-read (verdict-read (m .switch) (refusalIdent n ident) (framed m (refusalIdent n ident) k e) n (omega arith)
-    (refusal-fits n ident h l))
+refusal-reads m n ident k h e =
+    one-read (verdict-read (m .switch) (refusalIdent n ident) (framed m (refusalIdent n ident) k e) n
+    (omega (arith, turned-most n (h .1))) (refusal-fits n ident h))

@@ -43,10 +43,10 @@ pub record Framed (switch : ℕ) (ident : Ident) : Type 0 where
   pub other : switch ≡ 12 → ⊥
   pub named : identFits ident ≡ true
 
--- U has 0 or 4 to 17; a turned-away line's identification from 8 on and none for 4 to 7.
+-- U has 0, 4 to 17 or 26; a turned-away line's identification from 8 on and none for 4 to 7.
 pub record Turned (n : ℕ) (ident : Ident) : Type 0 where
   pub low : 4 ≤ n
-  pub high : n ≤ 17
+  pub high : 17 < n → n ≡ 26
   pub own : refusalIdent n ident ≡ ident
 
 -- Where the number is not 0.

@@ -54,18 +54,19 @@ onlyIf holds figures = cond holds figures (refused 20)
 
 -- ---- The fields, n being the six digits: the code and five digits after it
 
--- U: 000000 or 0000nn, nn 8 to 17, or 4 to 7 with no identification.
+-- U: 000000 or 0000nn, nn 8 to 17, 26, or 4 to 7 with no identification.
 abbrev pub isVerdict : ℕ → Ident → Bool
 isVerdict n ident =
     cond (eqb n 0) true
     (cond (isWithin n 8 17) true
+    (cond (eqb n 26) true
     (cond (isWithin n 4 7) (isAbsent ident)
-    false))
+    false)))
 
 abbrev pub verdictIn : ℕ → ℕ → Ident → Figures
 verdictIn switch n ident = onlyIf (isVerdict n ident) (verdict switch n ident)
 
--- An order's digits: 8 with a master in the second digit, or 8 more; 9, A, B; D, E with input bits only.
+-- An order's digits: 8 with a master in the second digit, or 8 more; 9, A, B, C; D, E with input bits only.
 abbrev pub isEcho : ℕ → Bool
 isEcho n =
     cond (eqb (code n) 8) (isAxis (second n % 8))

@@ -16,10 +16,13 @@ use reply::Travel;
 
 // What the status bits 0 to 6 count to.
 const STATUS_FULL: u32 = 128;
-// The highest number of a turned-away line.
+// The highest number of a turned-away line of paper 01, and the one that paper 02 (6/14) has beside them: there is
+// nothing to carry on.
 const LAST_NUMBER: u32 = 17;
 
-// U: 0, 8 to 17, or 4 to 7 with no identification.
+const NO_CARRY: u32 = 26;
+
+// U: 0, 8 to 17, 26, or 4 to 7 with no identification.
 fn is_verdict(number: u32, ident: Ident) -> bool
     ensures { λ r. ⌜ r ≡ isVerdict number ident ⌝ }
 {
@@ -29,13 +32,16 @@ fn is_verdict(number: u32, ident: Ident) -> bool
     if within(number, 8, LAST_NUMBER) {
         return true;
     }
+    if number == NO_CARRY {
+        return true;
+    }
     if within(number, 4, 7) {
         return host::is_absent(ident);
     }
     false
 }
 
-// An order's digits: 8 with a master in the second digit and any four after; 9, A, B; D, E with input bits only.
+// An order's digits: 8 with a master in the second digit and any four after; 9, A, B, C; D, E with input bits only.
 fn is_echo(number: u32) -> bool
     ensures { λ r. ⌜ r ≡ isEcho number ⌝ }
 {
@@ -57,7 +63,7 @@ fn is_echo(number: u32) -> bool
 fn verdict_in(switch: u8, number: u32, ident: Ident) -> Reading
     ensures { λ r. ⌜ figuresOf r ≡ verdictIn switch number ident ⌝ }
 {
-    if LAST_NUMBER < number {
+    if NO_CARRY < number {
         return Reading::NotBlock;
     }
     if !is_verdict(number, ident) {

@@ -27,7 +27,7 @@ pub enum Reading {
         status: u8,
         ident: Ident,
     },
-    // S 8, 9, A, B, D, E: the six digits of the order.
+    // S 8 to E: the six digits of the order.
     Echo {
         switch: u8,
         digits: u32,

@@ -23,6 +23,7 @@ use Rattle.reader.specs.Reader as F
 use Rattle.reader.specs.Reader.{Figures, readOf}
 use Rattle.reader.specs.Blocks.{VerdictFits, Spelt}
 use Rattle.reader.proofs.OnlyBlocks.{blocks-read}
+use Rattle.reader.proofs.VerdictLaws.{turned-most}
 use Rattle.text.specs.Decimal.{decimalOf, signText}
 use Rattle.text.specs.Parts.{behind}
 use Rattle.text.proofs.DecimalLaws.{decimal-ten}
@@ -71,7 +72,7 @@ origin-length s i = joined-length (switchText s) (identText i) 11 7 (switch-leng
 verdict-length : (n : ℕ) (i : Ident) → VerdictFits n i → length (verdictText n) ≤ 100
 verdict-length n i f =
     by-eq (Most 100) n 0 (sentenceText 0) (turnedText n) (λ _. omega (arith, sentence-length 0))
-    (λ (q : n ≡ 0 → ⊥). turned-length n (omega (arith, f q .high)))
+    (λ (q : n ≡ 0 → ⊥). turned-length n (omega (arith, turned-most n (f q .high))))
 
 direction-length : (minus : Bool) → length (directionText minus) ≤ 7
 direction-length true = omega arith
@@ -123,6 +124,7 @@ order-length n =
     λ _. by-bool (Most 28) (eqb (code n) 9) _ _ (λ _. omega arith)
     λ _. by-bool (Most 28) (eqb (code n) 10) _ _ (λ _. omega arith)
     λ _. by-bool (Most 28) (eqb (code n) 11) _ _ (λ _. omega arith)
+    λ _. by-bool (Most 28) (eqb (code n) 12) _ _ (λ _. omega arith)
     λ _. by-bool (Most 28) (eqb (code n) 13) _ _ (λ _. omega arith)
     λ _. by-bool (Most 28) (eqb (code n) 14) _ _ (λ _. omega arith) (λ _. omega arith)
 

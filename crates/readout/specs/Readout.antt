@@ -83,9 +83,10 @@ orderText n =
     (cond (eqb (code n) 9) (chars "stop")
     (cond (eqb (code n) 10) (chars "clear")
     (cond (eqb (code n) 11) (chars "reset")
+    (cond (eqb (code n) 12) (chars "carry on")
     (cond (eqb (code n) 13) (chars "low " ++ sixOf (five n))
     (cond (eqb (code n) 14) (chars "high " ++ sixOf (five n))
-    [])))))
+    []))))))
 
 abbrev pub echoText : ℕ → List ℕ
 echoText n = sentenceText 0 ++ (chars ": " ++ orderText n)

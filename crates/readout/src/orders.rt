@@ -36,6 +36,9 @@ fn order(text: Text, n: u32) -> Text
     if k == 11 {
         return text.characters(b"reset");
     }
+    if k == 12 {
+        return text.characters(b"carry on");
+    }
     if k == 13 {
         let low = text.characters(b"low ");
         return low.six(five);

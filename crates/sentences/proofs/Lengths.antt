@@ -53,5 +53,5 @@ turned-length n h =
 -- A question mark and the nearest form.
 pub question-length : (w : List ℕ) → length (questionText w) ≤ 200
 question-length w =
-    joined-length (chars "? ") (part 10 (closest 22 w) forms) 2 198 (omega arith)
-    (part-within 10 198 198 (closest 22 w) forms (omega arith) forms-within)
+    joined-length (chars "? ") (part 10 (closest 23 w) forms) 2 198 (omega arith)
+    (part-within 10 198 198 (closest 23 w) forms (omega arith) forms-within)

@@ -10,12 +10,12 @@ use Rattle.laws.proofs.Pick.{by-lt}
 use Rattle.sentences.specs.Sentences.{keywords, shared, closest}
 use Rattle.sentences.specs.Promises.{Nearest}
 
--- Place c is the best of the first n by the count f, and the first of these; or it is 22.
+-- Place c is the best of the first n by the count f, and the first of these; or it is 23.
 record Among (f : ℕ → ℕ) (n c : ℕ) : Type 0 where
-  within : c ≤ 22
+  within : c ≤ 23
   best : (k : ℕ) → k < n → f k ≤ f c
-  first : c < 22 → (k : ℕ) → k < c → f k < f c
-  some : c < 22 → 0 < f c
+  first : c < 23 → (k : ℕ) → k < c → f k < f c
+  some : c < 23 → 0 < f c
 
 -- A fact about each place below n and about n is one about each below suc n.
 below-suc : (P : ℕ → Type 0) (n : ℕ) → ((k : ℕ) → k < n → P k) → P n → (k : ℕ) → k < suc n → P k
@@ -24,7 +24,7 @@ below-suc P n less here k h =
     (λ (g : n ≤ k). let e : k ≡ n = omega (arith, g, h) in rw e here)
 
 -- One place more, that is better than the best before it.
-goes : (f : ℕ → ℕ) (n c : ℕ) → n < 22 → Among f n c → f c < f n → Among f (suc n) n
+goes : (f : ℕ → ℕ) (n c : ℕ) → n < 23 → Among f n c → f c < f n → Among f (suc n) n
 goes f n c h a g = record {
   within = omega (arith, h);
   best = below-suc (λ (k : ℕ). f k ≤ f n) n (λ k l. omega (arith, a .best k l, g)) (omega arith);
@@ -41,7 +41,7 @@ stays f n c a g = record {
   some = a .some;
 }
 
-among : (n : ℕ) (w : List ℕ) → n ≤ 22 → Among (λ (k : ℕ). shared k w) n (closest n w)
+among : (n : ℕ) (w : List ℕ) → n ≤ 23 → Among (λ (k : ℕ). shared k w) n (closest n w)
 unfolding closest
 among zero w h = record {
   within = omega arith;
@@ -56,15 +56,15 @@ among (suc n) w h =
     (goes f n (closest n w) (omega (arith, h)) a)
     (stays f n (closest n w) a)
 
--- Row 22 of the words is empty.
-none-shared : (w : List ℕ) → shared 22 w ≡ 0
+-- Row 23 of the words is empty.
+none-shared : (w : List ℕ) → shared 23 w ≡ 0
 unfolding before behind common keywords
 none-shared w = refl
 
 pub nearest : (w : List ℕ) → Nearest w
 nearest w =
     let f : ℕ → ℕ = λ (k : ℕ). shared k w in
-    let a : Among f 22 (closest 22 w) = among 22 w (omega arith) in
+    let a : Among f 23 (closest 23 w) = among 23 w (omega arith) in
     record {
       within = a .within;
       best = a .best;

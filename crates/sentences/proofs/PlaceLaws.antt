@@ -26,6 +26,7 @@ places = record {
   inputs-is = refl;
   clear-is = refl;
   reset-is = refl;
+  carry-is = refl;
   opening-is = refl;
   master-is = refl;
   ticks-is = refl;

@@ -60,15 +60,19 @@ clear = 16
 abbrev pub reset : ℕ
 reset = 17
 
+-- The word `on` follows.
+abbrev pub carry : ℕ
+carry = 18
+
 -- No commands: the host's first line, the master picker, the bench program's ticks, a trial of the program preview.
 abbrev pub opening : ℕ
-opening = 18
+opening = 19
 
 abbrev pub master : ℕ
-master = 19
+master = 20
 
 abbrev pub ticks : ℕ
-ticks = 20
+ticks = 21
 
 abbrev pub trial : ℕ
-trial = 21
+trial = 22

@@ -25,6 +25,7 @@ use Rattle.sentences.specs.Places.{
   inputs,
   clear,
   reset,
+  carry,
   opening,
   master,
   ticks,
@@ -52,6 +53,7 @@ pub record Places : Type 0 where
   pub inputs-is : placeOf (chars "inputs") ≡ inputs
   pub clear-is : placeOf (chars "clear") ≡ clear
   pub reset-is : placeOf (chars "reset") ≡ reset
+  pub carry-is : placeOf (chars "carry") ≡ carry
   pub opening-is : placeOf (chars "opening") ≡ opening
   pub master-is : placeOf (chars "master") ≡ master
   pub ticks-is : placeOf (chars "ticks") ≡ ticks
@@ -72,19 +74,19 @@ unfoldable pub allWords : ℕ → List ℕ
 allWords zero = part 10 0 keywords
 allWords (suc n) = allWords n ++ (chars ", " ++ part 10 (suc n) keywords)
 
--- The tables fit each other. A table has one part more than rows, for a line feed stands behind each row: 22 words, 23
--- forms, 26 sentences (0 to 25), 8 states, none of them empty; each form begins with its word, the last is all words.
+-- The tables fit each other. A table has one part more than rows, for a line feed stands behind each row: 23 words, 24
+-- forms, 27 sentences (0 to 26), 8 states, none of them empty; each form begins with its word, the last is all words.
 pub record Tables : Type 0 where
-  pub keyword-parts : parts 10 keywords ≡ 23
-  pub form-parts : parts 10 forms ≡ 24
-  pub sentence-parts : parts 10 sentences ≡ 27
+  pub keyword-parts : parts 10 keywords ≡ 24
+  pub form-parts : parts 10 forms ≡ 25
+  pub sentence-parts : parts 10 sentences ≡ 28
   pub state-parts : parts 10 states ≡ 9
-  pub keywords-filled : filled 22 keywords ≡ true
-  pub forms-filled : filled 23 forms ≡ true
-  pub sentences-filled : filled 26 sentences ≡ true
+  pub keywords-filled : filled 23 keywords ≡ true
+  pub forms-filled : filled 24 forms ≡ true
+  pub sentences-filled : filled 27 sentences ≡ true
   pub states-filled : filled 8 states ≡ true
-  pub forms-begin : formsBegin 22 ≡ true
-  pub forms-end : part 10 22 forms ≡ allWords 21
+  pub forms-begin : formsBegin 23 ≡ true
+  pub forms-end : part 10 23 forms ≡ allWords 22
 
 -- The place whose form answers a word w: no place has more first letters in common with w, each one before it has
 -- fewer, and it has at least one; that of no word only where no place has any.

@@ -15,7 +15,7 @@ abbrev pub rows : List String → List ℕ
 rows [] = []
 rows (r ∷ rs) = chars r ++ (10 ∷ rows rs)
 
--- ---- The sentence of each number (paper 01, "Turned away"; 22 to 24 paper 02, 1/14; 25 paper 02, 5/14), from 0 on
+-- ---- The sentence of each number (paper 01, "Turned away"; paper 02: 22 to 24 1/14, 25 5/14, 26 6/14), from 0 on
 
 unfoldable pub sentences : List ℕ
 sentences =
@@ -46,6 +46,7 @@ sentences =
     ∷ "the journal ends within an entry"
     ∷ "a number of the entry is out of its range or longer than it need be"
     ∷ "more than 1,000,000 ticks"
+    ∷ "there is nothing to carry on"
     ∷ [])
 
 -- The sentence of a number, and behind the number itself.
@@ -96,6 +97,7 @@ keywords =
     ∷ "inputs"
     ∷ "clear"
     ∷ "reset"
+    ∷ "carry"
     ∷ "opening"
     ∷ "master"
     ∷ "ticks"
@@ -123,17 +125,18 @@ forms =
     ∷ "inputs"
     ∷ "clear"
     ∷ "reset"
+    ∷ "carry on"
     ∷ "opening"
     ∷ "master 5 2 3 0 0"
     ∷ "ticks 1000, ticks 1000 000010"
     ∷ "trial 0, trial 0 6000, trial 0 6000 002000"
     ∷ [])
     ++ (chars "start, travel, position, dwell, watch, polarity, low, high, outputs, speed, slope, distance, stop, "
-    ++ rows ("status, everything, inputs, clear, reset, opening, master, ticks, trial" ∷ []))
+    ++ rows ("status, everything, inputs, clear, reset, carry, opening, master, ticks, trial" ∷ []))
 
 -- How many words there are, and so the place of no word.
 abbrev pub wordCount : ℕ
-wordCount = 22
+wordCount = 23
 
 -- How many first letters a word has in common with the one at place k; none with that behind the last.
 abbrev pub shared : ℕ → List ℕ → ℕ

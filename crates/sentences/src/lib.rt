@@ -29,7 +29,7 @@ pub mod places;
 mod tables;
 
 // The place of no word, behind that of the last.
-const NO_WORD: usize = 22;
+const NO_WORD: usize = 23;
 
 // The sentence of a number; nothing for a number that has none.
 pub fn sentence(text: Text, n: u8) -> Text

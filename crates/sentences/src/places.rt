@@ -36,11 +36,13 @@ pub const INPUTS: usize = 15;
 pub const CLEAR: usize = 16;
 
 pub const RESET: usize = 17;
+// The word `on` follows.
+pub const CARRY: usize = 18;
 // No commands: the host's first line, the master picker, the bench program's ticks, a trial of the program preview.
-pub const OPENING: usize = 18;
+pub const OPENING: usize = 19;
 
-pub const MASTER: usize = 19;
+pub const MASTER: usize = 20;
 
-pub const TICKS: usize = 20;
+pub const TICKS: usize = 21;
 
-pub const TRIAL: usize = 21;
+pub const TRIAL: usize = 22;

@@ -1,7 +1,7 @@
 // What the desk says in fixed words, row by row (docs/PROTOCOL.md, "From words"). A row ends with a line feed.
 
 // The sentence of each number, from 0 on.
-pub(crate) const SENTENCES: [u8; 814] = *b"accepted\n\
+pub(crate) const SENTENCES: [u8; 843] = *b"accepted\n\
     the switch is over 15 or equal to 12\n\
     a reply buffer is under 120 bytes\n\
     an input word is over FFFFFF\n\
@@ -26,7 +26,8 @@ pub(crate) const SENTENCES: [u8; 814] = *b"accepted\n\
     no space for the whole entry\n\
     the journal ends within an entry\n\
     a number of the entry is out of its range or longer than it need be\n\
-    more than 1,000,000 ticks\n";
+    more than 1,000,000 ticks\n\
+    there is nothing to carry on\n";
 
 // What a status says: of bits 0 and 1 together, then of each bit from 2 on.
 pub(crate) const STATES: [u8; 126] = *b"at rest\n\
@@ -39,7 +40,7 @@ pub(crate) const STATES: [u8; 126] = *b"at rest\n\
     stopped by the sensor\n";
 
 // The words that begin a form.
-pub(crate) const KEYWORDS: [u8; 150] = *b"start\n\
+pub(crate) const KEYWORDS: [u8; 156] = *b"start\n\
     travel\n\
     position\n\
     dwell\n\
@@ -57,13 +58,14 @@ pub(crate) const KEYWORDS: [u8; 150] = *b"start\n\
     inputs\n\
     clear\n\
     reset\n\
+    carry\n\
     opening\n\
     master\n\
     ticks\n\
     trial\n";
 
 // The form of each, and behind them that of no word: all words.
-pub(crate) const FORMS: [u8; 468] = *b"start 0, start 0 after dwell\n\
+pub(crate) const FORMS: [u8; 484] = *b"start 0, start 0 after dwell\n\
     travel 2\n\
     position 1\n\
     dwell 20\n\
@@ -81,9 +83,10 @@ pub(crate) const FORMS: [u8; 468] = *b"start 0, start 0 after dwell\n\
     inputs\n\
     clear\n\
     reset\n\
+    carry on\n\
     opening\n\
     master 5 2 3 0 0\n\
     ticks 1000, ticks 1000 000010\n\
     trial 0, trial 0 6000, trial 0 6000 002000\n\
     start, travel, position, dwell, watch, polarity, low, high, outputs, speed, slope, distance, stop, \
-    status, everything, inputs, clear, reset, opening, master, ticks, trial\n";
+    status, everything, inputs, clear, reset, carry, opening, master, ticks, trial\n";

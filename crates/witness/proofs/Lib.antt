@@ -1,3 +1,4 @@
 pub mod WitnessLaws
 pub mod EntryWitnessLaws
 pub mod BlockWitnessLaws
+pub mod CarriedLaws

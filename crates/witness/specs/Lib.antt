@@ -1,3 +1,4 @@
 pub mod Witness
 pub mod Entries
 pub mod Blocks
+pub mod Carried

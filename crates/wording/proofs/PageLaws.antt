@@ -64,6 +64,7 @@ commands = record {
   inputs = refl;
   clear = refl;
   reset = refl;
+  carry = refl;
 }
 
 marked : MarkRows
@@ -109,6 +110,8 @@ replies = record {
   stop = refl;
   clear = refl;
   reset = refl;
+  carry = refl;
+  nothing-to-carry = refl;
   low = refl;
   high = refl;
   position = refl;
@@ -129,6 +132,8 @@ nearest = record {
   letters = refl;
   silent = refl;
   first = refl;
+  carry-alone = refl;
+  carry-more = refl;
 }
 
 axes : AxisRows
@@ -164,6 +169,7 @@ forms-are = record {
   inputs = refl;
   clear = refl;
   reset = refl;
+  carry = refl;
   opening = refl;
   master = refl;
   ticks = refl;

@@ -104,16 +104,18 @@ start d =
 order : (n : ℕ) → Clean (orderText n)
 unfolding isLine
 order n =
-    let h = cond (eqb (code n) 14) (chars "high " ++ sixOf (five n)) [] in
-    let g = cond (eqb (code n) 13) (chars "low " ++ sixOf (five n)) h in
+    let i = cond (eqb (code n) 14) (chars "high " ++ sixOf (five n)) [] in
+    let h = cond (eqb (code n) 13) (chars "low " ++ sixOf (five n)) i in
+    let g = cond (eqb (code n) 12) (chars "carry on") h in
     let f = cond (eqb (code n) 11) (chars "reset") g in
     let e = cond (eqb (code n) 10) (chars "clear") f in
     either (eqb (code n) 8) (startText (second n)) (cond (eqb (code n) 9) (chars "stop") e) (start (second n))
     (either (eqb (code n) 9) (chars "stop") e refl
     (either (eqb (code n) 10) (chars "clear") f refl
     (either (eqb (code n) 11) (chars "reset") g refl
-    (either (eqb (code n) 13) (chars "low " ++ sixOf (five n)) h (six (five n))
-    (either (eqb (code n) 14) (chars "high " ++ sixOf (five n)) [] (six (five n)) refl)))))
+    (either (eqb (code n) 12) (chars "carry on") h refl
+    (either (eqb (code n) 13) (chars "low " ++ sixOf (five n)) i (six (five n))
+    (either (eqb (code n) 14) (chars "high " ++ sixOf (five n)) [] (six (five n)) refl))))))
 
 echo : (n : ℕ) → Clean (echoText n)
 unfolding isLine

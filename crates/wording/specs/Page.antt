@@ -29,6 +29,7 @@ pub record CommandRows : Type 0 where
   pub inputs : answerText (chars "inputs") ≡ chars "W0"
   pub clear : answerText (chars "clear") ≡ chars "Q0A00000"
   pub reset : answerText (chars "reset") ≡ chars "Q0B00000"
+  pub carry : answerText (chars "carry on") ≡ chars "Q0C00000"
 
 -- `silent`, an identification, and the two numbers of a command.
 pub record MarkRows : Type 0 where
@@ -71,6 +72,8 @@ pub record ReplyRows : Type 0 where
   pub stop : answerText (chars "S0900000") ≡ chars "accepted: stop"
   pub clear : answerText (chars "S0A00000") ≡ chars "accepted: clear"
   pub reset : answerText (chars "S0B1FA00") ≡ chars "accepted: reset"
+  pub carry : answerText (chars "S0C12300") ≡ chars "accepted: carry on"
+  pub nothing-to-carry : answerText (chars "U000001A") ≡ chars "turned away by 26: there is nothing to carry on"
   pub low : answerText (chars "S0D00010") ≡ chars "accepted: low 000010"
   pub high : answerText (chars "S0E01000") ≡ chars "accepted: high 001000"
   pub position : answerText (chars "s01FFFFF") ≡ chars "position 1 -1"
@@ -88,6 +91,8 @@ pub record NearestRows : Type 0 where
   pub letters : answerText (chars "strt 0") ≡ chars "? start 0, start 0 after dwell"
   pub silent : answerText (chars "silent ticks 5") ≡ chars "? ticks 1000, ticks 1000 000010"
   pub first : answerText (chars "help") ≡ chars "? high 01000"
+  pub carry-alone : answerText (chars "carry") ≡ chars "? carry on"
+  pub carry-more : answerText (chars "carry on on") ≡ chars "? carry on"
 
 -- The higher axes, which the page has not.
 pub record AxisRows : Type 0 where
@@ -117,6 +122,7 @@ pub record FormRows : Type 0 where
   pub inputs : part 10 K.inputs forms ≡ chars "inputs"
   pub clear : part 10 K.clear forms ≡ chars "clear"
   pub reset : part 10 K.reset forms ≡ chars "reset"
+  pub carry : part 10 K.carry forms ≡ chars "carry on"
   pub opening : part 10 K.opening forms ≡ chars "opening"
   pub master : part 10 K.master forms ≡ chars "master 5 2 3 0 0"
   pub ticks : part 10 K.ticks forms ≡ chars "ticks 1000, ticks 1000 000010"

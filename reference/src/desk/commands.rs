@@ -30,6 +30,7 @@ fn whole_command(words: &[&[u8]]) -> Option<Command> {
         [b"inputs"] => Command::ReadInputs,
         [b"clear"] => Command::ClearWrongMaster,
         [b"reset"] => Command::ResetPositions,
+        [b"carry", b"on"] => Command::CarryOn,
         _ => return None,
     };
     Some(command)

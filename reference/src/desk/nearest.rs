@@ -1,7 +1,7 @@
 //! From words, rule 5: the nearest form.
 
 /// From words: each word and its forms, in the order of the tables.
-pub const FORMS: [(&str, &str); 22] = [
+pub const FORMS: [(&str, &str); 23] = [
     ("start", "start 0, start 0 after dwell"),
     ("travel", "travel 2"),
     ("position", "position 1"),
@@ -20,6 +20,7 @@ pub const FORMS: [(&str, &str); 22] = [
     ("inputs", "inputs"),
     ("clear", "clear"),
     ("reset", "reset"),
+    ("carry", "carry on"),
     ("opening", "opening"),
     ("master", "master 5 2 3 0 0"),
     ("ticks", "ticks 1000, ticks 1000 000010"),

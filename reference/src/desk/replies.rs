@@ -63,13 +63,14 @@ fn start_words(second: u32) -> String {
     }
 }
 
-/// From words: S 8, 9, A, B, D, E; the free digits of an order's echo are not told.
+/// From words: S 8, 9, A, B, C, D, E; the free digits of an order's echo are not told.
 fn echo_words(code: u8, five: u32) -> String {
     let order = match code {
         0x8 => start_words(five >> 16),
         0x9 => "stop".to_string(),
         0xA => "clear".to_string(),
         0xB => "reset".to_string(),
+        0xC => "carry on".to_string(),
         0xD => format!("low {five:06X}"),
         _ => format!("high {five:06X}"),
     };

@@ -17,7 +17,7 @@ pub enum Reading {
     Travel { axis: u8, minus: bool, travel: u32 },
     /// S 6: status.
     Status { status: u32 },
-    /// S 8, 9, A, B, D, E: the code and the five digits echoed.
+    /// S 8, 9, A, B, C, D, E: the code and the five digits echoed.
     Echo { code: u8, five: u32 },
     /// s 0-4: position.
     Position { axis: u8, position: i32 },
@@ -61,10 +61,11 @@ fn block_identification(bytes: &[u8]) -> Result<Option<u8>, u8> {
     }
 }
 
-/// Turned away, 20: U has 0 or 4 to 17, and no identification for 4 to 7.
+/// Turned away, 20: U has 0 or 4 to 17, and no identification for 4 to 7; a number that a later request adds for a line
+/// (26) counts as 10 to 17 do.
 fn answer_reading(value: u32, identification: Option<u8>) -> Result<Reading, u8> {
     match value {
-        0 | 8..=17 => Ok(Reading::Answer { number: value as u8 }),
+        0 | 8..=17 | 26 => Ok(Reading::Answer { number: value as u8 }),
         4..=7 if identification.is_none() => Ok(Reading::Answer { number: value as u8 }),
         _ => Err(NO_BLOCK),
     }
@@ -88,7 +89,7 @@ fn status_reading(five: u32) -> Result<Reading, u8> {
 fn echo_reading(code: u8, five: u32) -> Result<Reading, u8> {
     let taken = match code {
         0x8 => start_named((five >> 16) as u8).is_some(),
-        0x9..=0xB => true,
+        0x9..=0xC => true,
         0xD | 0xE => on_setting(five, NO_BLOCK).is_ok(),
         _ => false,
     };

@@ -27,7 +27,8 @@ fn letter_of(command: Command) -> u8 {
         Command::Dwell(_) | Command::Watch(_) | Command::Polarity(_) => b'P',
         Command::ReadTravel { .. } | Command::ReadStatus | Command::Stop => b'Q',
         Command::Start { .. } | Command::StartAfterDwell { .. } => b'Q',
-        Command::ClearWrongMaster | Command::ResetPositions | Command::LowOn(_) | Command::HighOn(_) => b'Q',
+        Command::ClearWrongMaster | Command::ResetPositions | Command::CarryOn => b'Q',
+        Command::LowOn(_) | Command::HighOn(_) => b'Q',
         Command::ReadPosition { .. } | Command::ReadEverything => b'q',
         Command::ReadInputs | Command::Outputs(_) => b'W',
     }
@@ -71,6 +72,7 @@ fn digits_of(command: Command) -> Result<Option<u32>, u8> {
         Command::Stop => coded(0x9, 0),
         Command::ClearWrongMaster => coded(0xA, 0),
         Command::ResetPositions => coded(0xB, 0),
+        Command::CarryOn => coded(0xC, 0),
         Command::LowOn(bits) => coded(0xD, on_setting(bits, NO_LINE)?),
         Command::HighOn(bits) => coded(0xE, on_setting(bits, NO_LINE)?),
         Command::ReadPosition { axis } => coded(axis_in_range(axis)?, 0),

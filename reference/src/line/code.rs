@@ -4,7 +4,7 @@
 fn code_listed(letter: u8, code: u8) -> bool {
     match letter {
         b'P' => matches!(code, 0..=4 | 8 | 9 | 0xA | 0xB | 0xC),
-        b'Q' => matches!(code, 0..=4 | 6 | 8 | 9 | 0xA | 0xB | 0xD | 0xE),
+        b'Q' => matches!(code, 0..=4 | 6 | 8..=0xE),
         _ => matches!(code, 0..=4 | 8),
     }
 }

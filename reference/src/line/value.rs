@@ -41,6 +41,7 @@ pub(super) fn read_capital_q(code: u8, six: &[u8; 6]) -> Result<Command, u8> {
         9 => Ok(Command::Stop),
         0xA => Ok(Command::ClearWrongMaster),
         0xB => Ok(Command::ResetPositions),
+        0xC => Ok(Command::CarryOn),
         0xD => Ok(Command::LowOn(on_setting(five, OUTSIDE)?)),
         _ => Ok(Command::HighOn(on_setting(five, OUTSIDE)?)),
     }

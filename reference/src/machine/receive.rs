@@ -1,16 +1,17 @@
-//! Lines (chapter 7, 9): received bytes make lines, and lines have their effect or are turned away by 4 to 17.
+//! Lines (chapter 7, 9): received bytes make lines, and lines have their effect or are turned away by 4 to 17
+//! and 26.
 
 use super::{ByteAnswer, Machine, LEAST_REPLY_BUFFER};
 use crate::command::Command;
 use crate::line::{identification, is_silent, read_line, ReadLine, LINE_END, MOST_CHARACTERS};
 use crate::reply::turned_away;
 
-/// Turned away, 11: any start, and any P but speed, waits for the end of a move.
+/// Turned away, 11: any start, a carry-on, and any P but speed, waits for the end of a move.
 fn needs_rest(command: Command) -> bool {
     let start = matches!(command, Command::Start { .. } | Command::StartAfterDwell { .. });
     let distance_slope_dwell = matches!(command, Command::Distance { .. } | Command::Slope(_) | Command::Dwell(_));
     let watch_polarity = matches!(command, Command::Watch(_) | Command::Polarity(_));
-    start || distance_slope_dwell || watch_polarity
+    start || command == Command::CarryOn || distance_slope_dwell || watch_polarity
 }
 
 impl Machine {
@@ -22,13 +23,17 @@ impl Machine {
         Ok(())
     }
 
-    /// Lines: an accepted command has its effect, or a start is turned away by 12 to 17.
+    /// Lines: an accepted distance line sets the next move; paper 02, 6/14: nothing can be carried on after it.
+    fn set_distance(&mut self, axis: usize, minus: bool, pulses: u32) {
+        self.next.pulses[axis] = pulses;
+        self.next.minus[axis] = minus;
+        self.left_open = false;
+    }
+
+    /// Lines: an accepted command has its effect, or a start or carry-on is turned away by 12 to 17 and 26.
     fn act(&mut self, command: Command) -> Result<(), u8> {
         match command {
-            Command::Distance { axis, minus, pulses } => {
-                self.next.pulses[axis as usize] = pulses;
-                self.next.minus[axis as usize] = minus;
-            }
+            Command::Distance { axis, minus, pulses } => self.set_distance(axis as usize, minus, pulses),
             Command::Speed(setting) => self.speed = setting,
             Command::Slope(setting) => self.slope = setting,
             Command::Dwell(ms) => self.dwell_ms = ms,
@@ -39,6 +44,7 @@ impl Machine {
             Command::Stop => self.stop_by_order(),
             Command::ClearWrongMaster => self.wrong_master = false,
             Command::ResetPositions => self.reset_positions(),
+            Command::CarryOn => self.carry_on()?,
             Command::LowOn(bits) => self.inputs.low_on = bits,
             Command::HighOn(bits) => self.inputs.high_on = bits,
             Command::Outputs(word) => self.general_outputs = word,
@@ -48,7 +54,7 @@ impl Machine {
         Ok(())
     }
 
-    /// Turned away, 4 to 17, in checking order.
+    /// Turned away, 4 to 17 and 26, in checking order.
     fn take_line(&mut self, line: &[u8]) -> Result<ReadLine, u8> {
         let read = read_line(line)?;
         self.check_no_move(read.command)?;

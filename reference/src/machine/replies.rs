@@ -66,9 +66,10 @@ impl Machine {
             Command::Start { .. } | Command::StartAfterDwell { .. } | Command::Stop => {
                 self.echo_block(read.digits, identification)
             }
-            Command::ClearWrongMaster | Command::ResetPositions | Command::LowOn(_) | Command::HighOn(_) => {
+            Command::ClearWrongMaster | Command::ResetPositions | Command::CarryOn => {
                 self.echo_block(read.digits, identification)
             }
+            Command::LowOn(_) | Command::HighOn(_) => self.echo_block(read.digits, identification),
             Command::ReadPosition { axis } => self.position_block(axis, identification),
             Command::ReadEverything => self.everything_blocks(identification),
             Command::ReadInputs | Command::Outputs(_) => Vec::new(),

@@ -5,7 +5,7 @@ use crate::output::put_bit;
 
 impl Machine {
     /// Stops: some axis of a move is blocked; commands use the last tick's word.
-    fn blocked(&self, distances: &Distances) -> bool {
+    pub(super) fn blocked(&self, distances: &Distances) -> bool {
         self.inputs.some_axis_blocked(distances.pulses, distances.minus)
     }
 
@@ -15,7 +15,7 @@ impl Machine {
     }
 
     /// Stops: some axis of the next move is blocked.
-    pub(super) fn next_move_blocked(&self) -> bool {
+    fn next_move_blocked(&self) -> bool {
         self.blocked(&self.next)
     }
 

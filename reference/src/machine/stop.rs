@@ -25,9 +25,10 @@ impl Machine {
         }
     }
 
-    /// Lines: accepted lines, and lines turned away by 10 to 17, zero the watch count.
+    /// Lines: accepted lines, and lines turned away by 10 to 17, zero the watch count; a number that a later request
+    /// adds for a line (26) counts as 10 to 17 do.
     pub(super) fn zero_watch_count(&mut self, number: u8) {
-        if number == 0 || (10..=17).contains(&number) {
+        if matches!(number, 0 | 10..=17 | 26) {
             self.watch_count = 0;
         }
     }

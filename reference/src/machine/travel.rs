@@ -6,6 +6,12 @@ use crate::ramp::{running_tick, stopping_tick, RampTick};
 use crate::share::shares;
 
 impl Machine {
+    /// Paper 02, 6/14: short of M. Only a stop ends a move so.
+    fn short_of_the_whole(&self) -> bool {
+        let (master_distance, m) = self.master_distance_and_travel();
+        m < master_distance
+    }
+
     /// Ramp: at any end u and phase become 0 and the dwell starts, 250 ticks for each ms set.
     fn end_move(&mut self) {
         self.moving = false;
@@ -13,6 +19,7 @@ impl Machine {
         self.ramp_speed = 0;
         self.phase = 0;
         self.dwell = TICKS_PER_MS * self.dwell_ms;
+        self.left_open = self.short_of_the_whole();
     }
 
     /// Shares: M and m, the master's distance and its travel.

@@ -3,7 +3,7 @@
 use super::lines::Lines;
 
 /// From words, first table, and the examples under it.
-const COMMANDS: [&str; 23] = [
+const COMMANDS: [&str; 24] = [
     "start 0",
     "start 0 after dwell",
     "travel 2",
@@ -23,6 +23,7 @@ const COMMANDS: [&str; 23] = [
     "inputs",
     "clear",
     "reset",
+    "carry on",
     "silent stop",
     "stop as A",
     "dwell 16384",
@@ -47,7 +48,7 @@ const PROGRAM_WORDS: [&str; 10] = [
 const NEAREST: [&str; 4] = ["Speed 5", "strt 0", "silent ticks 5", "?"];
 
 /// From words, replies.
-const REPLIES: [&str; 25] = [
+const REPLIES: [&str; 27] = [
     "U0000000",
     "U000000E",
     "S0281388",
@@ -64,6 +65,8 @@ const REPLIES: [&str; 25] = [
     "S0900000",
     "S0A00000",
     "S0B1FA00",
+    "S0C12300",
+    "U000001A",
     "S0D00010",
     "S0E01000",
     "s01FFFFF",

@@ -3,7 +3,7 @@
 use super::lines::Lines;
 
 /// From words: each command of the first table once.
-const COMMANDS: [&str; 19] = [
+const COMMANDS: [&str; 20] = [
     "start 1",
     "start 4 after dwell",
     "travel 3",
@@ -23,6 +23,7 @@ const COMMANDS: [&str; 19] = [
     "inputs",
     "clear",
     "reset",
+    "carry on",
 ];
 
 /// From words: what stands before a form or behind it, where it should and where it should not.
@@ -78,7 +79,7 @@ pub(super) fn identifications(lines: &mut Lines) {
 
 /// From words: each command with an identification, silent and not; then odd combinations.
 pub(super) fn wishes(lines: &mut Lines) {
-    for (command, identification) in COMMANDS.iter().zip("0123456789ABCDEF012".chars()) {
+    for (command, identification) in COMMANDS.iter().zip("0123456789ABCDEF0123".chars()) {
         lines.line(&format!("{command} as {identification}"));
         lines.line(&format!("silent {command} as {identification}"));
     }

@@ -70,7 +70,7 @@ fn on_settings(text: &mut Text) {
 }
 
 /// Every command with a value that has a line: command, axis, flag, value.
-const COMMANDS: [(u8, u8, u8, u32); 18] = [
+const COMMANDS: [(u8, u8, u8, u32); 19] = [
     (0x00, 2, 1, 5_000),
     (0x01, 0, 0, 1_000_000),
     (0x02, 0, 0, 4_095),
@@ -89,6 +89,7 @@ const COMMANDS: [(u8, u8, u8, u32); 18] = [
     (0x0F, 0, 0, 0),
     (0x10, 0, 0, 0),
     (0x11, 0, 0, 0xABCDEF),
+    (0x12, 0, 0, 0),
 ];
 
 /// Lines: the identification.
@@ -109,6 +110,22 @@ pub(super) fn identifications(text: &mut Text) {
         text.writer(0x0A, 0, (0x09, 0, 0, 0), identification);
         text.writer(0x20, 1, (0x01, 0, 0, 1), identification);
         text.writer(0x0A, 0, (0x10, 0, 0, 0), identification);
+    }
+}
+
+/// Paper 02, 6/14: Q C carry on, which looks at nothing but its identification.
+pub(super) fn carry_ons(text: &mut Text) {
+    text.heading("writer: carry on; axis, flag and value are not looked at");
+    text.both_ways(0x12, 0, 0, 0);
+    text.both_ways(0x12, 0xFF, 1, u32::MAX);
+    for identification in ["30", "39", "41", "46", "2F", "3A", "40", "47", "61", "66", "0D", "FF"] {
+        text.writer(0x0A, 0, (0x12, 0, 0, 0), identification);
+        text.writer(0x40, 1, (0x12, 5, 1, 7), identification);
+    }
+    for length in [0x00, 0x01, 0x08, 0x09, 0x0A, 0x0B, 0x40] {
+        text.writer(length, 0, (0x12, 0, 0, 0), "--");
+        text.writer(length, 1, (0x12, 0, 0, 0), "43");
+        text.writer(length, 0, (0x12, 0, 0, 0), "63");
     }
 }
 

@@ -2,8 +2,8 @@
 
 use crate::text::Text;
 
-/// Turned away, 4 to 10: the number and its lines, parted by `|`.
-const REFUSED_AT_REST: [(u8, &str); 8] = [
+/// Turned away, 4 to 10 and 26: the number and its lines, parted by `|`.
+const REFUSED_AT_REST: [(u8, &str); 10] = [
     (4, "P|4|Q|P000000000|Q0600000AB|P00000000000000000000|X100000000|4444444444"),
     (5, "X0|X1G|p0000001|w0|S0|U0000000| Q06|00"),
     (6, "P1000001|Q5|q |W1|PP|Q1G|W2000000|q8800000A"),
@@ -12,11 +12,9 @@ const REFUSED_AT_REST: [(u8, &str); 8] = [
         "P0G00000|Q0 6|q0g|P000000:|W0/|Q0@|Q06`|W0-00001|P0GG|Q0600000G|Q0600000a|Q0600000f|W0000000 |\
      q0800000@|P08F424g|Q0x",
     ),
-    (
-        8,
-        "P0|Q0|q0|P05|P0500000|P0600000|P0700000|P0D00000|P0E00000|P0F00000A|Q05|Q0700000B|Q0C|Q0F00000|q05|\
-     q06|q07|q0900000C|q0A|q0F",
-    ),
+    (8, "P0|Q0|q0|P05|P0500000|P0600000|P0700000|P0D00000|P0E00000|P0F00000A|Q05|Q0700000B"),
+    (26, "Q0C"),
+    (8, "Q0F00000|q05|q06|q07|q0900000C|q0A|q0F"),
     (9, "P00|P00000|P080000|P0B|P0C0000|Q08|Q0D|Q0D0000|Q0E00|W01|W012345|W0FFF"),
     (10, "P0800000|P08F4241|P08FFFFFF|P0900000|P0901000D|P0A04000|P0B4|P0BF0000E|P0C01000|P0CFFFFF|Q085|Q08D"),
     (
@@ -27,7 +25,7 @@ const REFUSED_AT_REST: [(u8, &str); 8] = [
     ),
 ];
 
-/// Turned away, 4 to 10: each line replied and silent.
+/// Turned away, 4 to 10 and 26: each line replied and silent.
 pub(super) fn refused_lines(text: &mut Text) {
     text.list(0x00, 0x01, "Lines turned away by 4 to 10, replied and silent; more values turned away by 10");
     text.ticks(1, 0x123456);

@@ -49,6 +49,7 @@ fn command_of_number(number: u8, axis: u8, flag: bool, value: u32) -> Option<Com
         0x0F => Command::ReadEverything,
         0x10 => Command::ReadInputs,
         0x11 => Command::Outputs(value),
+        0x12 => Command::CarryOn,
         _ => return None,
     };
     Some(command)

@@ -1,6 +1,7 @@
 //! A list of calls followed from its accepted lines and answers alone: the latest move, positions, entries, blocks.
 
 use super::assert_shares;
+pub use super::latest::Move;
 use super::settled::Settled;
 use reference::line::read_line;
 use reference::{Command, Entry, Machine, TickAnswer};
@@ -14,38 +15,6 @@ const STOPPED: u32 = 0x68;
 /// What a lent buffer holds before a tick.
 const KEPT: [u8; 255] = [0xEE; 255];
 
-/// A move: its distances and master, and what the ticks since its start answered.
-#[derive(Clone, Default)]
-pub struct Move {
-    pub distances: [u32; 5],
-    pub master: usize,
-    pub stored: bool,
-    pub stop_begun: bool,
-    pub ticks: u64,
-    pub refused_ticks: u32,
-    pub signed_pulses: [i32; 5],
-}
-
-impl Move {
-    pub fn travels(&self) -> [u32; 5] {
-        self.signed_pulses.map(i32::unsigned_abs)
-    }
-
-    /// The entry of this move, where it has ended.
-    fn entry(&self) -> Entry {
-        let whole = self.travels()[self.master] == self.distances[self.master];
-        Entry { ticks: self.ticks, cause: u8::from(!whole), travels: self.signed_pulses }
-    }
-
-    /// Without a stop every axis ends at its distance, and all send their last pulse in one tick.
-    fn check_end(&self, last_pulses: [i8; 5]) {
-        if !self.stop_begun {
-            assert_eq!(self.travels(), self.distances);
-            assert_eq!(last_pulses.map(|pulse| pulse != 0), self.distances.map(|distance| distance > 0));
-        }
-    }
-}
-
 /// What a list has shown so far.
 #[derive(Default)]
 pub struct Followed {
@@ -58,6 +27,7 @@ pub struct Followed {
     pub latest: Option<Move>,
     positions: [i32; 5],
     pub starts: u32,
+    pub carry_ons: u32,
     /// Every move that has ended, with its entry.
     pub ended: Vec<(Move, Entry)>,
     /// The blocks of W lines.
@@ -76,13 +46,42 @@ impl Followed {
 
     fn accepted(&mut self, command: Command) {
         match command {
-            Command::Distance { axis, pulses, .. } => self.next_distances[axis as usize] = pulses,
+            Command::Distance { axis, pulses, .. } => self.distance_line(axis as usize, pulses),
+            Command::CarryOn => self.carry_on(),
             Command::Dwell(ms) => self.dwell_ms = ms,
             Command::ResetPositions => self.positions = [0; 5],
             Command::Stop => self.order_9(),
             Command::StartAfterDwell { master } if self.dwell > 0 => self.waiting = Some(master),
             Command::Start { master } | Command::StartAfterDwell { master } => self.begin(master, false),
             _ => {}
+        }
+    }
+
+    fn distance_line(&mut self, axis: usize, pulses: u32) {
+        self.next_distances[axis] = pulses;
+        if let Some(latest) = &mut self.latest {
+            latest.distance_line = true;
+        }
+    }
+
+    fn carry_on(&mut self) {
+        self.latest.as_mut().unwrap().carry_on();
+        (self.moving, self.waiting, self.dwell) = (true, None, 0);
+        self.carry_ons += 1;
+    }
+
+    /// Paper 02, 6/14: whether there is something to carry on, read off accepted lines, starts, stops and ends.
+    fn left_open(&self) -> bool {
+        !self.moving && self.latest.as_ref().is_some_and(|latest| !latest.is_whole() && !latest.distance_line)
+    }
+
+    /// The number of a carry-on: 11 in a move, else 26 exactly where nothing is left open; 17 never strikes one. No
+    /// other line has 26.
+    fn check_number(&self, line: &[u8], number: u8) {
+        let carry_on = read_line(line).is_ok_and(|read| read.command == Command::CarryOn);
+        assert_eq!(carry_on && !self.moving && !self.left_open(), number == 26);
+        if carry_on && number != 26 {
+            assert!(if self.moving { number == 11 } else { matches!(number, 0 | 12 | 13 | 16) });
         }
     }
 
@@ -104,6 +103,7 @@ impl Followed {
             return number;
         }
         let line = std::mem::take(&mut self.line);
+        self.check_number(&line, number);
         if number == 0 {
             self.accepted(read_line(&line).unwrap().command);
             self.settled.accepted(&line);

@@ -3,7 +3,9 @@
 #![allow(dead_code)]
 
 pub mod blocks;
+pub mod carried;
 pub mod followed;
+pub mod latest;
 pub mod programs;
 pub mod refused;
 pub mod sequence;

@@ -36,7 +36,7 @@ fn drawn_w(sequence: &mut Sequence) -> String {
 
 /// A line that is often a command, without its 0D.
 pub fn drawn_line(sequence: &mut Sequence, next_distances: [u32; 5]) -> Vec<u8> {
-    let text = match sequence.below(34) {
+    let text = match sequence.below(42) {
         0..=5 => {
             let end = [3, 40, 300, 300, 300, 524_288][sequence.below(6) as usize];
             format!("P0{}{:05X}", sequence.below(5), sequence.below(end) | (sequence.below(2) << 19))
@@ -53,6 +53,7 @@ pub fn drawn_line(sequence: &mut Sequence, next_distances: [u32; 5]) -> Vec<u8> 
         27 => format!("Q0E{:05X}", 0x33FF & (1 << sequence.below(20))),
         28 => "q08".to_string(),
         29..=32 => drawn_w(sequence),
+        33..=40 => ["Q0C", "Q0C", "Q4C12345F", "Q09"][sequence.below(4) as usize].to_string(),
         _ => return (0..sequence.below(12)).map(|_| (sequence.below(255) as u8).max(14)).collect(),
     };
     text.into_bytes()

@@ -2,31 +2,37 @@
 use borrow.Author.Needs.{needs}
 use Prim.Native.Nat.{ℕ}
 use mathlib.Core.Path.{_≡_, sym, _∙_}
+use Rattle.machine.specs.Carry.{CarryOn}
 use Rattle.machine.specs.Demand.{Demand3}
 use Rattle.machine.specs.Journal.{Journal}
 use Rattle.machine.specs.Marked.{Marked}
 use Rattle.machine.specs.Settle.{Settles}
 use Rattle.machine.specs.Watch.{Watch}
+use Rattle.machine.proofs.CarryLaws.{carry-on}
 use Rattle.machine.proofs.DemandLaws.{demand-3}
 use Rattle.machine.proofs.MarkedLaws.{marked}
 use Rattle.machine.proofs.SettleLaws.{settled}
 use Rattle.machine.proofs.TakenLaws.{journal-is}
 use Rattle.machine.proofs.WatchLaws.{watched}
 use Rattle.witness.specs.Blocks.{BlockWitness}
+use Rattle.witness.specs.Carried.{CarryWitness}
 use Rattle.witness.specs.Entries.{EntryWitness}
 use Rattle.witness.specs.Witness.{Witness}
 use Rattle.witness.proofs.BlockWitnessLaws.{blocks-answered}
+use Rattle.witness.proofs.CarriedLaws.{carries-on}
 use Rattle.witness.proofs.EntryWitnessLaws.{entries}
 use Rattle.witness.proofs.WitnessLaws.{witness}
 use Rattle.controller.specs.declared.state.PowerOn.{PowerOn}
 use Rattle.controller.specs.Held.{heldPower}
 use Rattle.controller.specs.Reach.{Reachable}
 use Rattle.controller.specs.Answers.{Demand3Answers}
+use Rattle.controller.specs.Carry.{CarryAnswers}
 use Rattle.controller.specs.Journal.{JournalAnswers}
 use Rattle.controller.specs.Settle.{SettlesAnswers}
 use Rattle.controller.proofs.EntryPowerLaws.{power-bad, power-good}
 use Rattle.controller.proofs.ReachLaws.{reach-power}
 use Rattle.controller.proofs.AnswerLaws.{demand-3-answers}
+use Rattle.controller.proofs.CarryAnswerLaws.{carry-answers}
 use Rattle.controller.proofs.JournalAnswerLaws.{journal-answers}
 use Rattle.controller.proofs.SettleAnswerLaws.{settles-answers}
 use Rattle.controller.proofs.power_on.Statement.{statement}
@@ -42,7 +48,10 @@ powered : (s : ℕ) (r : PowerOn) → r ≡ heldPower s
     × (Journal
     × (JournalAnswers
     × (EntryWitness
-    × (Watch × (Settles × (SettlesAnswers × (BlockWitness × Reachable (r .controller))))))))))))
+    × (Watch
+    × (Settles
+    × (SettlesAnswers
+    × (BlockWitness × (CarryOn × (CarryAnswers × (CarryWitness × Reachable (r .controller)))))))))))))))
 powered s r e = (
   e,
   (
@@ -51,8 +60,12 @@ powered s r e = (
   ),
 )
   where
-    settling : Settles × (SettlesAnswers × (BlockWitness × Reachable (r .controller)))
-    settling = (settled, (settles-answers, (blocks-answered, reach-power s r e)))
+    carrying : CarryOn × (CarryAnswers × (CarryWitness × Reachable (r .controller)))
+    carrying = (carry-on, (carry-answers, (carries-on, reach-power s r e)))
+
+    settling : Settles
+        × (SettlesAnswers × (BlockWitness × (CarryOn × (CarryAnswers × (CarryWitness × Reachable (r .controller))))))
+    settling = (settled, (settles-answers, (blocks-answered, carrying)))
 
 is-bad-requires : tie.Need-is-bad-requires
 is-bad-requires c κs = search needs

@@ -43,7 +43,7 @@ opening-requires c κs = search needs
 returns : tie.Need-returns
 returns c =
     let w = c .before .before in
-    placed w (c .opening .ensures) (on-eq (w .place-of .result) 18 _ _ _ (c .before .if1 .taken) refl)
+    placed w (c .opening .ensures) (on-eq (w .place-of .result) 19 _ _ _ (c .before .if1 .taken) refl)
 
 master-requires : tie.Need-master-requires
 master-requires c κs = search needs
@@ -52,8 +52,8 @@ returns-2 : tie.Need-returns-2
 returns-2 c =
     let w = c .before .before .before in
     placed w (c .master .ensures)
-    (on-ne (w .place-of .result) 18 _ _ _ (c .before .before .if1 .left)
-    (on-eq (w .place-of .result) 19 _ _ _ (c .before .if2 .taken) refl))
+    (on-ne (w .place-of .result) 19 _ _ _ (c .before .before .if1 .left)
+    (on-eq (w .place-of .result) 20 _ _ _ (c .before .if2 .taken) refl))
 
 ticks-requires : tie.Need-ticks-requires
 ticks-requires c κs = search needs
@@ -62,9 +62,9 @@ returns-3 : tie.Need-returns-3
 returns-3 c =
     let w = c .before .before .before .before in
     placed w (c .ticks .ensures)
-    (on-ne (w .place-of .result) 18 _ _ _ (c .before .before .before .if1 .left)
-    (on-ne (w .place-of .result) 19 _ _ _ (c .before .before .if2 .left)
-    (on-eq (w .place-of .result) 20 _ _ _ (c .before .if3 .taken) refl)))
+    (on-ne (w .place-of .result) 19 _ _ _ (c .before .before .before .if1 .left)
+    (on-ne (w .place-of .result) 20 _ _ _ (c .before .before .if2 .left)
+    (on-eq (w .place-of .result) 21 _ _ _ (c .before .if3 .taken) refl)))
 
 trial-requires : tie.Need-trial-requires
 trial-requires c κs = search needs
@@ -73,10 +73,10 @@ returns-4 : tie.Need-returns-4
 returns-4 c =
     let w = c .before .before .before .before .before in
     placed w (c .trial .ensures)
-    (on-ne (w .place-of .result) 18 _ _ _ (c .before .before .before .before .if1 .left)
-    (on-ne (w .place-of .result) 19 _ _ _ (c .before .before .before .if2 .left)
-    (on-ne (w .place-of .result) 20 _ _ _ (c .before .before .if3 .left)
-    (on-eq (w .place-of .result) 21 _ _ _ (c .before .if4 .taken) refl))))
+    (on-ne (w .place-of .result) 19 _ _ _ (c .before .before .before .before .if1 .left)
+    (on-ne (w .place-of .result) 20 _ _ _ (c .before .before .before .if2 .left)
+    (on-ne (w .place-of .result) 21 _ _ _ (c .before .before .if3 .left)
+    (on-eq (w .place-of .result) 22 _ _ _ (c .before .if4 .taken) refl))))
 
 command-requires : tie.Need-command-requires
 command-requires c κs = search needs
@@ -85,10 +85,10 @@ returns-5 : tie.Need-returns-5
 returns-5 c =
     let w = c .before .before .before .before .before in
     placed w (c .command .ensures)
-    (on-ne (w .place-of .result) 18 _ _ _ (c .before .before .before .before .if1 .left)
-    (on-ne (w .place-of .result) 19 _ _ _ (c .before .before .before .if2 .left)
-    (on-ne (w .place-of .result) 20 _ _ _ (c .before .before .if3 .left)
-    (on-ne (w .place-of .result) 21 _ _ _ (c .before .if4 .left) refl))))
+    (on-ne (w .place-of .result) 19 _ _ _ (c .before .before .before .before .if1 .left)
+    (on-ne (w .place-of .result) 20 _ _ _ (c .before .before .before .if2 .left)
+    (on-ne (w .place-of .result) 21 _ _ _ (c .before .before .if3 .left)
+    (on-ne (w .place-of .result) 22 _ _ _ (c .before .if4 .left) refl))))
 
 pub words-spec : {M : Type 1} → statement M
 words-spec =

@@ -8,10 +8,10 @@ use Rattle.sentences.proofs.closest.Statement.{statement}
 use Rattle.sentences.proofs.closest.Tie as tie
 
 abbrev Inv-loop : tie.InvT-loop
-Inv-loop w best₀ k₀ best k = (k ≤ 22) × (best ≡ closest k w)
+Inv-loop w best₀ k₀ best k = (k ≤ 23) × (best ≡ closest k w)
 
 abbrev μ-loop : tie.MeasureT-loop
-μ-loop w best₀ k₀ best k = 22 - k
+μ-loop w best₀ k₀ best k = 23 - k
 
 loop-holds : tie.Need-loop-holds Inv-loop μ-loop
 unfolding closest
@@ -39,7 +39,7 @@ loop-again c =
 
 returns : tie.Need-returns Inv-loop μ-loop
 returns c =
-    let e : c .before .loop .k ≡ 22 = omega (arith, c .before .loop .inv .0, c .loop-test .left) in
+    let e : c .before .loop .k ≡ 23 = omega (arith, c .before .loop .inv .0, c .loop-test .left) in
     c .before .loop .inv .1 ∙ ap (λ (n : ℕ). closest n (c .before .before .before .args .w .now)) e
 
 pub closest-spec : {M : Type 1} → statement M

@@ -9,10 +9,10 @@ use Rattle.sentences.proofs.place_of.Statement.{statement}
 use Rattle.sentences.proofs.place_of.Tie as tie
 
 abbrev Inv-loop : tie.InvT-loop
-Inv-loop w found₀ k₀ found k = (k ≤ 22) × (found ≡ placeIn k w)
+Inv-loop w found₀ k₀ found k = (k ≤ 23) × (found ≡ placeIn k w)
 
 abbrev μ-loop : tie.MeasureT-loop
-μ-loop w found₀ k₀ found k = 22 - k
+μ-loop w found₀ k₀ found k = 23 - k
 
 loop-holds : tie.Need-loop-holds Inv-loop μ-loop
 unfolding placeIn
@@ -40,7 +40,7 @@ loop-again c =
 
 returns : tie.Need-returns Inv-loop μ-loop
 returns c =
-    let e : c .before .loop .k ≡ 22 = omega (arith, c .before .loop .inv .0, c .loop-test .left) in
+    let e : c .before .loop .k ≡ 23 = omega (arith, c .before .loop .inv .0, c .loop-test .left) in
     (c .before .loop .inv .1 ∙ ap (λ (n : ℕ). placeIn n (c .before .before .before .args .w .now)) e, places)
 
 pub place-of-spec : {M : Type 1} → statement M

@@ -13,17 +13,20 @@ within-requires c κs = search needs
 returns-2 : tie.Need-returns-2
 returns-2 c = search (picks, tolds) depth 11
 
+returns-3 : tie.Need-returns-3
+returns-3 c = search (picks, tolds) depth 11
+
 within-requires-2 : tie.Need-within-requires-2
 within-requires-2 c κs = search needs
 
 is-absent-requires : tie.Need-is-absent-requires
 is-absent-requires c κs = search needs
 
-returns-3 : tie.Need-returns-3
-returns-3 c = search (picks, tolds) depth 11
-
 returns-4 : tie.Need-returns-4
 returns-4 c = search (picks, tolds) depth 11
+
+returns-5 : tie.Need-returns-5
+returns-5 c = search (picks, tolds) depth 11
 
 pub is-verdict-spec : {M : Type 1} → statement M
 is-verdict-spec =
@@ -32,7 +35,8 @@ is-verdict-spec =
     returns
     within-requires
     returns-2
+    returns-3
     within-requires-2
     is-absent-requires
-    returns-3
-    returns-4)
+    returns-4
+    returns-5)

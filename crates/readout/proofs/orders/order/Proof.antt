@@ -57,14 +57,10 @@ slice-aggregate-characters-4 c = search needs
 characters-requires-4 : tie.Need-characters-requires-4
 characters-requires-4 c κs = search needs
 
-six-requires : tie.Need-six-requires
-six-requires c κs = search needs
-
 returns-5 : tie.Need-returns-5
 returns-5 c =
-    let s = c .before .before .before .before .before .before .before .before .args in
-    joined (s .text) (chars "low ") (sixOf (five (s .n))) (c .before .characters4 .ensures) (c .six .ensures)
-    ∙ ap (writes (s .text)) (search picks)
+    let s = c .before .before .before .before .before .before .before .args in
+    c .characters4 .ensures ∙ ap (writes (s .text)) (search picks)
 
 slice-aggregate-characters-5 : tie.Need-slice-aggregate-characters-5
 slice-aggregate-characters-5 c = search needs
@@ -72,18 +68,33 @@ slice-aggregate-characters-5 c = search needs
 characters-requires-5 : tie.Need-characters-requires-5
 characters-requires-5 c κs = search needs
 
-six-requires-2 : tie.Need-six-requires-2
-six-requires-2 c κs = search needs
+six-requires : tie.Need-six-requires
+six-requires c κs = search needs
 
 returns-6 : tie.Need-returns-6
 returns-6 c =
     let s = c .before .before .before .before .before .before .before .before .before .args in
-    joined (s .text) (chars "high ") (sixOf (five (s .n))) (c .before .characters5 .ensures) (c .six2 .ensures)
+    joined (s .text) (chars "low ") (sixOf (five (s .n))) (c .before .characters5 .ensures) (c .six .ensures)
     ∙ ap (writes (s .text)) (search picks depth 12)
+
+slice-aggregate-characters-6 : tie.Need-slice-aggregate-characters-6
+slice-aggregate-characters-6 c = search needs
+
+characters-requires-6 : tie.Need-characters-requires-6
+characters-requires-6 c κs = search needs
+
+six-requires-2 : tie.Need-six-requires-2
+six-requires-2 c κs = search needs
 
 returns-7 : tie.Need-returns-7
 returns-7 c =
-    let s = c .before .before .before .before .before .before .args in
+    let s = c .before .before .before .before .before .before .before .before .before .before .args in
+    joined (s .text) (chars "high ") (sixOf (five (s .n))) (c .before .characters6 .ensures) (c .six2 .ensures)
+    ∙ ap (writes (s .text)) (search picks depth 12)
+
+returns-8 : tie.Need-returns-8
+returns-8 c =
+    let s = c .before .before .before .before .before .before .before .args in
     writes-none (s .text) ∙ ap (writes (s .text)) (search picks depth 12)
 
 pub order-spec : {M : Type 1} → statement M
@@ -103,10 +114,13 @@ order-spec =
     returns-4
     slice-aggregate-characters-4
     characters-requires-4
-    six-requires
     returns-5
     slice-aggregate-characters-5
     characters-requires-5
-    six-requires-2
+    six-requires
     returns-6
-    returns-7)
+    slice-aggregate-characters-6
+    characters-requires-6
+    six-requires-2
+    returns-7
+    returns-8)
