@@ -10,7 +10,7 @@ pub use previewed::Previewed;
 pub use typed::Typed;
 
 use crate::coverage::Coverage;
-use crate::observed::Observed;
+use crate::observed::{Directed, Observed};
 use crate::random::Random;
 use crate::trial::Asked;
 use reference::{Machine, Trial};
@@ -72,6 +72,16 @@ pub trait Bench {
 
     fn machine(&self) -> &Machine {
         self.stand().observed.machine()
+    }
+
+    /// Whether a stopped move is left to be carried on.
+    fn is_open(&self) -> bool {
+        self.stand().observed.is_open()
+    }
+
+    /// Distances and directions of the next move.
+    fn directed(&self) -> Directed {
+        self.stand().observed.directed()
     }
 
     /// Ticks that may still be run.

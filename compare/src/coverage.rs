@@ -1,11 +1,13 @@
 //! Counters of what a run has met, and how they are printed.
 
 mod blocks;
+mod carried;
 mod marks;
 mod moves;
 mod trials;
 
 pub use blocks::Blocks;
+pub use carried::{Carried, Found, Nothing, Since, SINCE};
 pub use marks::Marks;
 pub use moves::{Cause, Moves};
 pub use trials::{Met, Trials};
@@ -13,8 +15,9 @@ pub use trials::{Met, Trials};
 use crate::counted::{add_each, grouped, listed, Counted};
 use std::fmt;
 
-/// The highest number of a line or a tick.
-const LAST_NUMBER: usize = 17;
+/// The highest number of a line or a tick, and the highest below it.
+const LAST_NUMBER: usize = 26;
+const LAST_IN_ROW: usize = 17;
 
 /// Counters of one part of a run.
 #[derive(Clone, Debug, Default)]
@@ -27,6 +30,7 @@ pub struct Coverage {
     pub ticks: u64,
     pub readings: u64,
     pub moves: Moves,
+    pub carried: Carried,
     pub blocks: Blocks,
     pub trials: Trials,
     pub switches: Marks,
@@ -57,6 +61,7 @@ impl Counted for Coverage {
     fn add(&mut self, more: &Coverage) {
         self.add_traffic(more);
         self.moves.add(&more.moves);
+        self.carried.add(&more.carried);
         self.blocks.add(&more.blocks);
         self.trials.add(&more.trials);
         self.switches.join(&more.switches);
@@ -74,8 +79,8 @@ impl fmt::Display for Coverage {
         writeln!(f, "  lines {}, {bytes}", g(self.lines))?;
         let [switches, lent, to_ticks] = [&self.switches, &self.lent, &self.lent_to_ticks].map(Marks::count);
         writeln!(f, "  switches {switches} of 256, lengths of buffers lent to bytes {lent}, to ticks {to_ticks}")?;
-        write!(f, "{}{}", self.blocks, self.moves)?;
-        let numbers = (1..=LAST_NUMBER).map(|number| (format!("{number}:"), self.numbers[number]));
+        write!(f, "{}{}{}", self.blocks, self.moves, self.carried)?;
+        let numbers = (1..=LAST_IN_ROW).chain([LAST_NUMBER]).map(|number| (format!("{number}:"), self.numbers[number]));
         writeln!(f, "  numbers: {}", listed(numbers))?;
         write!(f, "{}", self.trials)
     }

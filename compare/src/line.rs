@@ -73,6 +73,10 @@ pub fn reset_positions() -> Order {
     short(b'Q', "B".into())
 }
 
+pub fn carry_on() -> Order {
+    short(b'Q', "C".into())
+}
+
 pub fn low_on(bits: u32) -> Order {
     six(b'Q', 0xD, bits)
 }

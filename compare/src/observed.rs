@@ -1,12 +1,16 @@
 //! A reference machine whose answers and status are counted.
 
+mod carrying;
 mod followed;
 mod tried;
+
+pub use carrying::Directed;
 
 use crate::bits::{BLOCKED, BY_SENSOR, HELD, MOVING, STOPPED};
 use crate::call::LONGEST_LENT;
 use crate::coverage::{Cause, Coverage};
 use crate::operator::WATCH_OFF;
+use carrying::Carrying;
 use followed::Followed;
 use reference::journal::Entry;
 use reference::{front, ByteAnswer, Machine};
@@ -21,6 +25,7 @@ pub struct Observed {
     /// The characters of the line under way, and what the lines before it have set.
     line: Vec<u8>,
     followed: Followed,
+    carrying: Carrying,
 }
 
 impl Observed {
@@ -29,8 +34,8 @@ impl Observed {
         let mut seen = Coverage { items: 1, ..Coverage::default() };
         seen.number(number);
         seen.switches.mark(switch);
-        let status = machine.status();
-        Observed { machine, seen, status, stop_begun: false, line: Vec::new(), followed: Followed::power_on() }
+        let (status, followed, carrying) = (machine.status(), Followed::power_on(), Carrying::power_on());
+        Observed { machine, seen, status, stop_begun: false, line: Vec::new(), followed, carrying }
     }
 
     /// As the bench programs begin: the host's first line was accepted, and is not counted (paper 02, 2/14).
@@ -70,16 +75,22 @@ impl Observed {
             return answer;
         }
         if byte == reference::line::LINE_END {
-            self.seen.lines += 1;
-            let line = std::mem::take(&mut self.line);
-            if answer.number == 0 {
-                self.followed.accepted(&line, self.status, &mut self.seen.blocks);
-            }
-            self.follow_line();
+            self.end_line(answer.number);
         } else {
             self.line.push(byte);
         }
         answer
+    }
+
+    /// The end of a line, and its number.
+    fn end_line(&mut self, number: u8) {
+        self.seen.lines += 1;
+        let line = std::mem::take(&mut self.line);
+        let carried = self.carry_line(&line, number);
+        if number == 0 {
+            self.followed.accepted(&line, self.status, &mut self.seen.blocks);
+        }
+        self.follow_line(carried);
     }
 
     /// A call of ticks with one input word, all lent one buffer.
@@ -99,6 +110,7 @@ impl Observed {
         self.seen.moves.pulses += answer.pulses.iter().any(|&pulse| pulse != 0) as u64;
         if answer.number != 0 {
             self.seen.number(answer.number);
+            self.carrying.tick_number(answer.number);
         }
         self.follow_tick(answer.entry);
         self.followed.ticked(answer.len, self.status);
@@ -106,12 +118,17 @@ impl Observed {
 
     fn begin_move(&mut self) {
         self.seen.moves.starts += 1;
+        self.carrying.begin();
         self.stop_begun = false;
     }
 
-    fn follow_line(&mut self) {
+    /// What a line has led to, and whether it has carried a move on.
+    fn follow_line(&mut self, carried: bool) {
         let before = std::mem::replace(&mut self.status, self.machine.status());
-        if self.status & !before & MOVING != 0 {
+        if carried {
+            self.seen.moves.carry_ons += 1;
+            self.stop_begun = false;
+        } else if self.status & !before & MOVING != 0 {
             self.begin_move();
         }
         if self.status & !before & STOPPED != 0 {
@@ -134,6 +151,7 @@ impl Observed {
         self.follow_causes(if started { before & HELD } else { before });
         if let Some(entry) = entry {
             self.seen.moves.end(&entry, self.stop_begun);
+            self.end_carried(&entry);
         }
     }
 

@@ -9,10 +9,12 @@ use reference::command::{FASTEST, HIGHEST_POLARITY, LONGEST, ON_SETTING_BITS, ST
 use reference::machine::INPUT_WORD_END;
 
 mod at_rest;
+mod carry_on;
 mod in_dwell;
 mod settings;
 mod settle;
 mod starts;
+mod stutter;
 mod under_way;
 
 const AXES: usize = 5;
@@ -106,7 +108,7 @@ impl Operator {
     /// Any order, sent without regard to what runs.
     fn any_order(&mut self) -> Order {
         let random = &mut self.random;
-        match random.below(14) {
+        match random.below(15) {
             0..=2 => line::distance(any_axis(random), random.chance(50), random.spread(LONGEST)),
             3 => line::speed(random.spread(FASTEST)),
             4 => line::slope(random.spread(STEEPEST)),
@@ -117,6 +119,7 @@ impl Operator {
             9 => line::start_after_dwell(any_axis(random)),
             10 => line::clear_wrong_master(),
             11 => line::outputs(random.below(INPUT_WORD_END)),
+            12 => line::carry_on(),
             _ => line::reading(random),
         }
     }

@@ -67,7 +67,7 @@ fn behind(text: &str, mark: &str) -> Option<char> {
 /// The desk's own number, or that of a reply block; 10 is of both kinds.
 fn turned_away<'a>(line: &[u8], behind: &'a str) -> Kind<'a> {
     match number_at_front(behind) {
-        number @ 4..=17 if line.starts_with(b"U") => Kind::Block("turned away", Some(number)),
+        number @ (4..=17 | 26) if line.starts_with(b"U") => Kind::Block("turned away", Some(number)),
         number => Kind::Number(number),
     }
 }

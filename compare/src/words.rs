@@ -97,13 +97,15 @@ mod tests {
     fn every_answer_comes() {
         let answered = answered();
         let comes = |front: &str| answered.iter().any(|(_, answer)| answer.starts_with(front));
-        let numbers = [3, 4, 5, 6, 7, 8, 9, 10, 11, 12, 13, 14, 15, 16, 17, 19, 20, 21, 25];
+        let numbers = [3, 4, 5, 6, 7, 8, 9, 10, 11, 12, 13, 14, 15, 16, 17, 19, 20, 21, 25, 26];
         assert!(numbers.iter().all(|number| comes(&format!("turned away by {number}: "))));
-        let orders = ["start", "stop", "clear", "reset", "low", "high"].map(|order| format!("accepted: {order}"));
+        let orders =
+            ["start", "stop", "clear", "reset", "carry on", "low", "high"].map(|order| format!("accepted: {order}"));
         assert!(orders.iter().all(|order| comes(order)));
         let fronts =
             ["accepted\n", "travel ", "status ", "position ", "inputs ", "pulses ", "master 4", "T ", "D ", "P0B0\n"];
         assert!(fronts.iter().all(|front| comes(front)));
+        assert!(["Q0C00000\n", "Q4C00000\n", "Q0C00000F\n"].iter().all(|front| comes(front)));
         assert!(FORMS.iter().all(|(_, form)| comes(&format!("? {form}\n"))));
     }
 }

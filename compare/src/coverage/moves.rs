@@ -23,6 +23,7 @@ const CAUSE_NAMES: [&str; 6] = ["order", "limit", "watch", "watch of power-on", 
 pub struct Moves {
     pub starts: u64,
     pub stored_starts: u64,
+    pub carry_ons: u64,
     pub pulses: u64,
     /// Entries of cause 0 with no stop begun.
     whole: u64,
@@ -70,6 +71,7 @@ impl Moves {
     pub fn add(&mut self, more: &Moves) {
         self.starts += more.starts;
         self.stored_starts += more.stored_starts;
+        self.carry_ons += more.carry_ons;
         self.pulses += more.pulses;
         self.whole += more.whole;
         self.whole_in_stop += more.whole_in_stop;
@@ -87,7 +89,7 @@ impl fmt::Display for Moves {
         let complete = self.whole + self.whole_in_stop;
         let in_stop = format!("of these {} with a stop begun", g(self.whole_in_stop));
         write!(f, "  moves ended, entries of cause 0 {}, {in_stop}, of cause 1 {}", g(complete), g(self.stopped))?;
-        writeln!(f, "; cut off {}", g(self.starts - complete - self.stopped))?;
+        writeln!(f, "; cut off {}", g(self.starts + self.carry_ons - complete - self.stopped))?;
         writeln!(f, "  largest sum of a remainder and a distance in those of cause 0 {}", g(self.largest_sum as u64))?;
         let causes = CAUSE_NAMES.iter().zip(self.causes);
         writeln!(f, "  stop causes that met a move: {}", listed(causes))

@@ -37,7 +37,7 @@ impl Followed {
             Command::Distance { axis, pulses, .. } => self.distances[axis as usize] = pulses,
             Command::Watch(bits) => (self.watch, self.watch_set) = (bits, true),
             Command::StartAfterDwell { .. } => self.waiting = in_dwell(status),
-            Command::Start { .. } | Command::Stop => self.waiting = false,
+            Command::Start { .. } | Command::Stop | Command::CarryOn => self.waiting = false,
             Command::ReadInputs | Command::Outputs(_) => self.w_line(!is_silent(line), blocks),
             _ => {}
         }
@@ -61,7 +61,9 @@ mod tests {
         let (mut followed, mut blocks) = (Followed::power_on(), Blocks::default());
         followed.accepted(b"Q088", 0, &mut blocks);
         assert!(!followed.waiting);
-        for (line, waits) in [("Q488", true), ("P0000005", true), ("Q09", false), ("Q08C", true)] {
+        let lines =
+            [("Q488", true), ("P0000005", true), ("Q09", false), ("Q08C", true), ("Q0C", false), ("Q089", true)];
+        for (line, waits) in lines {
             followed.accepted(line.as_bytes(), BUSY, &mut blocks);
             assert_eq!(followed.waiting, waits);
         }

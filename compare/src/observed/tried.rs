@@ -54,6 +54,7 @@ impl Observed {
         let answer = asked.tried(&self.machine);
         let (short, watched) = (self.is_short(asked, &answer), self.fills_watch(asked, &answer));
         let met = self.met();
+        self.carrying.tried();
         self.seen.trials.count(&answer, asked.ticks, met);
         self.seen.trials.short += short as u64;
         self.seen.trials.watched += watched as u64;

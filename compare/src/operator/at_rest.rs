@@ -8,10 +8,11 @@ use reference::machine::{TICKS_PER_MS, WATCH_FULL};
 
 impl Operator {
     /// Frees a held emergency, first at times while its input still acts, and clears what keeps starts away.
-    fn put_right<B: Bench>(&mut self, bench: &mut B, status: u32) {
+    pub(super) fn put_right<B: Bench>(&mut self, bench: &mut B, status: u32) {
         if status & HELD != 0 && self.random.chance(20) {
             self.order(bench, line::reset_positions());
-            self.order(bench, line::start(0));
+            let order = if self.random.chance(50) { line::start(0) } else { line::carry_on() };
+            self.order(bench, order);
         }
         if self.low_on & self.high_on != 0 || self.random.chance(20) {
             self.set_inputs(bench);
@@ -26,6 +27,10 @@ impl Operator {
     }
 
     pub(super) fn at_rest<B: Bench>(&mut self, bench: &mut B) {
+        if self.likes_to_go_on(bench) {
+            self.go_on(bench);
+            return;
+        }
         let status = bench.machine().status();
         if status & (WRONG_MASTER | BLOCKED | HELD | BY_SENSOR) != 0 && self.random.chance(80) {
             self.put_right(bench, status);
@@ -48,13 +53,21 @@ impl Operator {
             60..=61 => self.settle(bench),
             62 => self.settle_in_dwell(bench),
             63 if self.time_for_longest(bench) => self.longest_move(bench),
+            64..=69 => self.stutter(bench),
+            70..=71 => {
+                self.carry_on(bench);
+            }
             _ => self.start_move(bench),
         }
         self.run_some(bench, 20);
     }
 
-    /// Inputs act while nothing runs, and a start meets them.
+    /// Inputs act while nothing runs, and a start or a carry-on meets them.
     fn alarm_at_rest<B: Bench>(&mut self, bench: &mut B) {
+        if self.random.chance(25) {
+            self.carry_on_in_alarm(bench);
+            return;
+        }
         let word = self.alarm_word();
         let count = self.random.between(1, 5);
         bench.run(&mut self.random, count, word);
@@ -115,13 +128,13 @@ impl Operator {
         bench.ticks_left() > WATCH_FULL + 100
     }
 
-    /// One line of any kind, right or not.
+    /// One line of any kind, right or not, at times a carry-on.
     fn disturb<B: Bench>(&mut self, bench: &mut B) {
         if self.random.chance(60) {
             self.mistake(bench);
             return;
         }
-        let order = self.any_order();
+        let order = if self.random.chance(30) { line::carry_on() } else { self.any_order() };
         self.order(bench, order);
     }
 }

@@ -7,6 +7,10 @@ use reference::machine::TICKS_PER_MS;
 
 impl Operator {
     pub(super) fn in_dwell<B: Bench>(&mut self, bench: &mut B) {
+        if self.likes_to_go_on(bench) {
+            self.go_on_in_dwell(bench);
+            return;
+        }
         match self.random.below(21) {
             0..=8 => self.store_start(bench),
             9..=11 => self.start_move(bench),

@@ -34,7 +34,7 @@ impl Operator {
     }
 
     /// A stop by order, by an input, or by a setting that makes an input act.
-    fn stop<B: Bench>(&mut self, bench: &mut B) {
+    pub(super) fn stop<B: Bench>(&mut self, bench: &mut B) {
         match self.random.below(10) {
             0..=2 => {
                 self.order(bench, line::stop());

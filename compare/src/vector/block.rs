@@ -17,11 +17,15 @@ fn order_digits(random: &mut Random, code: u32) -> u32 {
     }
 }
 
+/// The numbers of lines end with these, those between them being no line's.
+const LAST_NUMBERS: [u32; 2] = [17, 26];
+
 /// The letter and the six digits of a block.
 fn content(random: &mut Random) -> (u8, u32) {
     let (code, any) = (random.below(16), random.below(1 << 20));
+    let last = random.pick(&LAST_NUMBERS);
     match random.below(4) {
-        0 => (b'U', near(random, 17) % (1 << 24)),
+        0 => (b'U', near(random, last) % (1 << 24)),
         1 => (b'S', code << 20 | order_digits(random, code)),
         2 => (b's', random.below(6) << 20 | random.pick(&[0, 1, 0x7FFFF, 0x80000, 0xFFFFF, any, any])),
         _ => (b'R', near(random, 0xFF_FFFF) % (1 << 24)),

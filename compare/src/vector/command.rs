@@ -6,7 +6,7 @@ use reference::command::{FASTEST, HIGHEST_POLARITY, LONGEST, LONGEST_DWELL, ON_S
 use reference::machine::INPUT_WORD_END;
 
 /// The commands of the page's table.
-const COMMANDS: u32 = 18;
+const COMMANDS: u32 = 19;
 
 /// The greatest value of each command that has one and is no set of input bits; 3 for the others.
 fn last(command: u32) -> u32 {

@@ -12,6 +12,20 @@ const LAST_WATCH: u32 = 3;
 /// Words that have no figure.
 const ALONE: [&str; 6] = ["stop", "status", "everything", "inputs", "clear", "reset"];
 
+/// What is near `carry on`.
+const NEAR_CARRY_ON: [&str; 10] = [
+    "carry",
+    "carry ",
+    "carry on on",
+    "carry  on",
+    "carry off",
+    "carry o",
+    "carry on 0",
+    "carry 0",
+    "carry On",
+    "carryon",
+];
+
 /// An axis, or a master; mostly there is such a one.
 fn axis(random: &mut Random) -> String {
     if random.chance(50) {
@@ -35,6 +49,14 @@ fn distance(random: &mut Random) -> String {
     format!("distance {} {sign}{}", axis(random), decimal(random, LONGEST))
 }
 
+/// `carry on`, or what is near it and is not.
+fn carry_on(random: &mut Random) -> String {
+    if random.chance(60) {
+        return "carry on".to_string();
+    }
+    random.pick(&NEAR_CARRY_ON).to_string()
+}
+
 fn start(random: &mut Random) -> String {
     let behind = random.pick(&["", "", "", " after dwell", " after dwell", " after dwell", " after", " dwell"]);
     format!("start {}{behind}", axis(random))
@@ -42,7 +64,7 @@ fn start(random: &mut Random) -> String {
 
 /// Words in one of the forms.
 pub fn form(random: &mut Random) -> String {
-    match random.below(26) {
+    match random.below(28) {
         0..=2 => start(random),
         3 => format!("travel {}", axis(random)),
         4 => format!("position {}", axis(random)),
@@ -54,6 +76,7 @@ pub fn form(random: &mut Random) -> String {
         11 => format!("outputs {}", hexadecimal(random, INPUT_WORD_END - 1)),
         12..=14 => distance(random),
         15..=19 => figure::form(random),
+        20..=21 => carry_on(random),
         _ => random.pick(&ALONE).to_string(),
     }
 }

@@ -10,11 +10,11 @@ fn sent(random: &mut Random) -> (char, u32) {
     let (axis, any) = (random.below(5) << 20, random.below(1 << 20));
     let inputs = any & ON_SETTING_BITS;
     match random.below(10) {
-        0..=1 => ('U', random.pick(&[0, 4, 5, 6, 7, 8, 9, 10, 11, 12, 13, 14, 15, 16, 17])),
+        0..=1 => ('U', random.pick(&[0, 4, 5, 6, 7, 8, 9, 10, 11, 12, 13, 14, 15, 16, 17, 26])),
         2 => ('S', axis | any),
         3..=5 => ('S', 0x600000 | random.below(128)),
         6 => ('S', 0x800000 | random.pick(&[0, 1, 2, 3, 4, 8, 9, 10, 11, 12]) << 16 | any & 0xFFFF),
-        7 => ('S', random.pick(&[0x900000, 0xA00000, 0xB00000]) | any),
+        7 => ('S', random.pick(&[0x900000, 0xA00000, 0xB00000, 0xC00000]) | any),
         8 => ('S', random.pick(&[0xD00000, 0xE00000]) | inputs),
         _ => ('s', axis | any),
     }

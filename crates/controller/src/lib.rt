@@ -58,6 +58,7 @@ mod words;
 // the two about carry-ons (`CarryOn`, `CarryAnswers`), with a computed one (`CarryWitness`).
 pub fn power_on(switch: u8) -> PowerOn
     ensures { λ r. ⌜ r ≡ heldPower switch ⌝ }
+    ensures { λ r. ⌜ Reachable (r .controller) ⌝ }
     ensures { λ _. ⌜ Demand3 ⌝ }
     ensures { λ _. ⌜ Marked ⌝ }
     ensures { λ _. ⌜ Witness ⌝ }
@@ -72,7 +73,6 @@ pub fn power_on(switch: u8) -> PowerOn
     ensures { λ _. ⌜ CarryOn ⌝ }
     ensures { λ _. ⌜ CarryAnswers ⌝ }
     ensures { λ _. ⌜ CarryWitness ⌝ }
-    ensures { λ r. ⌜ Reachable (r .controller) ⌝ }
 {
     if power::is_bad(switch) {
         let controller = power::fresh(0);

@@ -14,6 +14,7 @@ ghost use Rattle.controller.specs.Held.{heldPower};
 ghost use Rattle.controller.specs.Reach.{Reachable, Made};
 ghost use Rattle.controller.specs.Answers as answered;
 ghost use Rattle.controller.specs.Answers.{Promised, TravelsOf, PositionsOf, Demand3Answers};
+ghost use Rattle.controller.specs.Carry.{CarryAnswers};
 ghost use Rattle.controller.specs.Journal.{JournalAnswers};
 ghost use Rattle.controller.specs.Settle.{SettlesAnswers};
 use controller::ByteAnswer;
@@ -41,10 +42,11 @@ pub struct Positions {
 #[no_mangle]
 pub extern "C" fn temixohuel_power_on(switch: u8) -> PowerOn
     ensures { λ r. ⌜ r ≡ heldPower switch ⌝ }
+    ensures { λ r. ⌜ Reachable (r .controller) ⌝ }
     ensures { λ _. ⌜ Demand3Answers ⌝ }
     ensures { λ _. ⌜ JournalAnswers ⌝ }
     ensures { λ _. ⌜ SettlesAnswers ⌝ }
-    ensures { λ r. ⌜ Reachable (r .controller) ⌝ }
+    ensures { λ _. ⌜ CarryAnswers ⌝ }
 {
     controller::power_on(switch)
 }

@@ -41,6 +41,7 @@ use Rattle.controller.proofs.power_on.Tie as tie
 -- What power-on promises, given its answer.
 powered : (s : ℕ) (r : PowerOn) → r ≡ heldPower s
     → (r ≡ heldPower s)
+    × (Reachable (r .controller)
     × (Demand3
     × (Marked
     × (Witness
@@ -48,24 +49,20 @@ powered : (s : ℕ) (r : PowerOn) → r ≡ heldPower s
     × (Journal
     × (JournalAnswers
     × (EntryWitness
-    × (Watch
-    × (Settles
-    × (SettlesAnswers
-    × (BlockWitness × (CarryOn × (CarryAnswers × (CarryWitness × Reachable (r .controller)))))))))))))))
+    × (Watch × (Settles × (SettlesAnswers × (BlockWitness × (CarryOn × (CarryAnswers × CarryWitness))))))))))))))
 powered s r e = (
   e,
   (
-    demand-3,
-    (marked, (witness, (demand-3-answers, (journal-is, (journal-answers, (entries, (watched, settling))))))),
+    reach-power s r e,
+    (
+      demand-3,
+      (marked, (witness, (demand-3-answers, (journal-is, (journal-answers, (entries, (watched, later))))))),
+    ),
   ),
 )
   where
-    carrying : CarryOn × (CarryAnswers × (CarryWitness × Reachable (r .controller)))
-    carrying = (carry-on, (carry-answers, (carries-on, reach-power s r e)))
-
-    settling : Settles
-        × (SettlesAnswers × (BlockWitness × (CarryOn × (CarryAnswers × (CarryWitness × Reachable (r .controller))))))
-    settling = (settled, (settles-answers, (blocks-answered, carrying)))
+    later : Settles × (SettlesAnswers × (BlockWitness × (CarryOn × (CarryAnswers × CarryWitness))))
+    later = (settled, (settles-answers, (blocks-answered, (carry-on, (carry-answers, carries-on)))))
 
 is-bad-requires : tie.Need-is-bad-requires
 is-bad-requires c κs = search needs

@@ -10,10 +10,11 @@ power-on-requires c κs = search needs
 returns : tie.Need-returns
 returns c =
     let e = c .power-on .ensures in
-    let answers = e .1 .1 .1 .1 in
+    let answers = e .1 .1 .1 .1 .1 in
     let entries = answers .1 .1 in
     let blocks = entries .1 .1 .1 .1 in
-    (e .0, (answers .0, (entries .0, (blocks .0, blocks .1 .1))))
+    let carries = blocks .1 .1 .1 in
+    (e .0, (e .1 .0, (answers .0, (entries .0, (blocks .0, carries .0)))))
 
 pub temixohuel-power-on-spec : {M : Type 1} → statement M
 temixohuel-power-on-spec = tie.close (tie.spec power-on-requires returns)
