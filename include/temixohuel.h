@@ -43,16 +43,17 @@ enum {
     TEMIXOHUEL_COUNT = 9,           /* line: digit count not the code's */
     TEMIXOHUEL_RANGE = 10,          /* line: value out of range; trial: master over 4 */
     TEMIXOHUEL_MOVING = 11,         /* line or trial: a move runs */
-    TEMIXOHUEL_EMERGENCY = 12,      /* start: emergency held */
-    TEMIXOHUEL_SENSOR = 13,         /* start: sensor active */
+    TEMIXOHUEL_EMERGENCY = 12,      /* start or carry-on: emergency held */
+    TEMIXOHUEL_SENSOR = 13,         /* start or carry-on: sensor active */
     TEMIXOHUEL_LONGER = 14,         /* start: an axis longer than the master */
     TEMIXOHUEL_NO_DISTANCE = 15,    /* start: master distance 0 */
-    TEMIXOHUEL_BLOCKED = 16,        /* start: an axis blocked */
-    TEMIXOHUEL_POSITION = 17,       /* start: a final position out of range */
+    TEMIXOHUEL_BLOCKED = 16,        /* start or carry-on: an axis blocked */
+    TEMIXOHUEL_POSITION = 17,       /* start or carry-on: a final position out of range */
     TEMIXOHUEL_SPACE = 22,          /* append: no space for the whole entry; nothing is written */
     TEMIXOHUEL_CUT = 23,            /* read: the bytes end within an entry */
     TEMIXOHUEL_SPELLING = 24,       /* a value out of range; read: or no shortest spelling of seven groups at most */
-    TEMIXOHUEL_TICKS = 25           /* trial: over 1,000,000 ticks */
+    TEMIXOHUEL_TICKS = 25,          /* trial: over 1,000,000 ticks */
+    TEMIXOHUEL_NO_CARRY = 26        /* carry-on: nothing to carry on */
 };
 
 typedef struct {
@@ -61,9 +62,9 @@ typedef struct {
 
 /* A move that ended. */
 typedef struct {
-    uint64_t ticks;                 /* ticks moved, the ending one included: 1 to 2^45 - 1 */
+    uint64_t ticks;                 /* since its start or last carry-on, the ending one included: 1 to 2^45 - 1 */
     uint8_t cause;                  /* 0: the master's distance is complete; 1: stopped */
-    int32_t travels[TEMIXOHUEL_AXES]; /* signed pulses: -524,287 to 524,287 */
+    int32_t travels[TEMIXOHUEL_AXES]; /* signed pulses since its start: -524,287 to 524,287 */
 } temixohuel_entry;
 
 typedef struct {
@@ -74,7 +75,7 @@ typedef struct {
 typedef struct {
     temixohuel_controller controller;
     size_t length;                  /* of the reply at the front of buf; 0 without one */
-    uint8_t number;                 /* 0, 2, or 4 to 17; told of silent lines too */
+    uint8_t number;                 /* 0, 2, 4 to 17, or 26; told of silent lines too */
 } temixohuel_byte_answer;
 
 typedef struct {
@@ -117,7 +118,7 @@ typedef struct {
 } temixohuel_read_answer;
 
 /* A fresh controller. Its watch is 1 until a P B line sets another: a move is stopped once 1,000,000 ticks (4 s) pass
-   without a line that is accepted or turned away by 10 to 17. P0B0 turns it off. */
+   without a line that is accepted or turned away by 10 to 17 or 26. P0B0 turns it off. */
 temixohuel_power_answer temixohuel_power_on(uint8_t switch_);
 
 /* A received byte; a reply is written to the front of buf, and the bytes after it keep their values. */

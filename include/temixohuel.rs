@@ -10,8 +10,8 @@
 #[derive(Clone, Copy)]
 struct Opaque([u32; 64]);
 
-/// A move that ended: ticks moved, the ending one included, 0 for a complete master's distance or 1 for stopped, and
-/// the signed travels.
+/// A move that ended: ticks since its start or last carry-on, the ending one included, 0 for a complete master's
+/// distance or 1 for stopped, and the signed travels since its start.
 #[repr(C)]
 #[derive(Clone, Copy, Debug, PartialEq, Eq)]
 pub struct Entry {
@@ -112,7 +112,7 @@ pub struct Controller(Opaque);
 impl Controller {
     /// A fresh controller, and 1 for a switch that there is none of, else 0. Its watch is 1
     /// until a P B line sets another: a move is stopped once 1,000,000 ticks (4 s) pass without a line that is accepted
-    /// or turned away by 10 to 17. P0B0 turns it off.
+    /// or turned away by 10 to 17 or 26. P0B0 turns it off.
     pub fn power_on(switch: u8) -> (Controller, u8) {
         let answer = unsafe { temixohuel_power_on(switch) };
         (Controller(answer.controller), answer.number)

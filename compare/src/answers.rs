@@ -9,6 +9,8 @@ pub struct Answers {
     pub lines: u64,
     letters: Named<char>,
     numbers: Named<String>,
+    /// Those about a carry-on that are not turned away.
+    carry_ons: Named<&'static str>,
 }
 
 /// A number of the papers at the front of the answers to W, B, F, A and J, `--` for the end of a journal, or the
@@ -18,6 +20,17 @@ fn number_of(line: &[u8], answer: &str) -> Option<String> {
     (first == "?" || b"WBFAJ".contains(&line[0])).then(|| first.to_string())
 }
 
+/// A carry-on's line written, its echo read, or the number of one with nothing to carry on.
+fn carry_on(line: &[u8], answer: &str) -> Option<&'static str> {
+    let fields: Vec<&str> = answer.split(' ').collect();
+    match (line, fields.as_slice()) {
+        ([b'W', _, _, _, _, _, _, b'1', b'2', ..], ["00", ..]) => Some("written"),
+        (_, ["00", "U", _, "26", ..]) => Some("26 read"),
+        (_, ["00", "E", _, digits, ..]) if digits.starts_with('C') => Some("echoes read"),
+        _ => None,
+    }
+}
+
 impl Answers {
     pub fn count(&mut self, line: &[u8], answer: &str) {
         self.lines += 1;
@@ -25,6 +38,7 @@ impl Answers {
         if let Some(number) = number_of(line, answer) {
             self.numbers.count(number);
         }
+        carry_on(line, answer).into_iter().for_each(|what| self.carry_ons.count(what));
     }
 }
 
@@ -33,6 +47,7 @@ impl Counted for Answers {
         self.lines += more.lines;
         self.letters.add(&more.letters);
         self.numbers.add(&more.numbers);
+        self.carry_ons.add(&more.carry_ons);
     }
 }
 
@@ -40,6 +55,7 @@ impl fmt::Display for Answers {
     fn fmt(&self, f: &mut fmt::Formatter) -> fmt::Result {
         writeln!(f, "  lines: {}", self.letters.listed())?;
         let numbers = self.numbers.listed();
-        writeln!(f, "  numbers of W, B, F, A and J, ends of journals, and question marks: {numbers}")
+        writeln!(f, "  numbers of W, B, F, A and J, ends of journals, and question marks: {numbers}")?;
+        writeln!(f, "  of carry-ons: {}", self.carry_ons.listed())
     }
 }

@@ -1,16 +1,16 @@
 //! A reference machine whose answers and status are counted.
 
+mod carried;
 mod carrying;
 mod followed;
 mod tried;
 
-pub use carrying::Directed;
+pub use carrying::{Carrying, Directed};
 
 use crate::bits::{BLOCKED, BY_SENSOR, HELD, MOVING, STOPPED};
 use crate::call::LONGEST_LENT;
 use crate::coverage::{Cause, Coverage};
 use crate::operator::WATCH_OFF;
-use carrying::Carrying;
 use followed::Followed;
 use reference::journal::Entry;
 use reference::{front, ByteAnswer, Machine};

@@ -1,11 +1,9 @@
 //! The latest move as carry-ons find it (paper 02, 6/14): how it ended, and what has come since.
 
-use super::Observed;
-use crate::bits::{in_dwell, BY_SENSOR, HELD, MOVING, STOPPED};
-use crate::coverage::{Found, Nothing, Since, SINCE};
+use crate::bits::in_dwell;
+use crate::coverage::{Nothing, Since, SINCE};
 use reference::command::Command;
 use reference::journal::{Entry, COMPLETE};
-use reference::line::{identification, is_silent, read_line};
 
 /// Distance and direction of each axis, true for minus.
 pub type Directed = [(u32, bool); 5];
@@ -13,19 +11,13 @@ pub type Directed = [(u32, bool); 5];
 #[derive(Clone, Copy, Debug)]
 pub struct Carrying {
     /// Why there is nothing to carry on; none where a stop has ended the latest move.
-    nothing: Option<Nothing>,
-    since: [bool; SINCE],
-    /// How often the latest move was carried on.
-    times: u64,
+    pub nothing: Option<Nothing>,
+    /// What has come since it ended.
+    pub since: [bool; SINCE],
+    /// How often it was carried on.
+    pub times: u64,
     /// The next move.
-    distances: Directed,
-}
-
-/// Whether the share of some axis is more than its travel: the master is the longest axis, and its travel too.
-fn is_between_pulses(distances: Directed, travels: [u32; 5]) -> bool {
-    let distances = distances.map(|(distance, _)| distance as u64);
-    let (whole, sent) = (distances.into_iter().fold(1, u64::max), travels.into_iter().fold(0, u32::max) as u64);
-    distances.iter().any(|distance| !(sent * distance).is_multiple_of(whole))
+    pub distances: Directed,
 }
 
 /// What an accepted line is to a stopped move, but for distance lines.
@@ -65,6 +57,10 @@ impl Carrying {
         self.times = 0;
     }
 
+    pub fn refused(&mut self, line: &[u8]) {
+        self.mark(since_refused(line));
+    }
+
     pub fn tried(&mut self) {
         self.mark(Since::Trial);
     }
@@ -76,7 +72,7 @@ impl Carrying {
         }
     }
 
-    fn end(&mut self, entry: &Entry, stop_begun: bool) {
+    pub fn end(&mut self, entry: &Entry, stop_begun: bool) {
         self.since = [false; SINCE];
         self.nothing = match (entry.cause, stop_begun) {
             (COMPLETE, false) => Some(Nothing::Whole),
@@ -95,81 +91,11 @@ impl Carrying {
         };
     }
 
-    fn accepted(&mut self, command: Command, status: u32) {
+    pub fn accepted(&mut self, command: Command, status: u32) {
         if let Command::Distance { axis, minus, pulses } = command {
             self.distance(axis as usize, (pulses, minus));
         } else if let Some(since) = since_line(command, status) {
             self.mark(since);
-        }
-    }
-}
-
-impl Observed {
-    /// Whether a stop has ended the latest move and nothing since has kept it from being carried on.
-    pub fn is_open(&self) -> bool {
-        self.status & MOVING == 0 && self.carrying.nothing.is_none()
-    }
-
-    /// The next move.
-    pub fn directed(&self) -> Directed {
-        self.carrying.distances
-    }
-
-    /// What a carry-on finds, in the order of their names.
-    fn found(&self) -> Found {
-        let by_bits = self.status & (STOPPED | BY_SENSOR);
-        [
-            self.machine.travels() == [0; 5],
-            is_between_pulses(self.carrying.distances, self.machine.travels()),
-            in_dwell(self.status),
-            self.followed.waiting,
-            by_bits & STOPPED != 0,
-            by_bits & BY_SENSOR != 0,
-            by_bits == 0,
-        ]
-    }
-
-    /// A line that carries on, and its number.
-    fn carry_on(&mut self, line: &[u8], number: u8) {
-        let (found, held) = (self.found(), self.status & HELD != 0);
-        let (seen, carrying) = (&mut self.seen.carried, &mut self.carrying);
-        seen.lines += 1;
-        seen.silent += is_silent(line) as u64;
-        seen.identified += identification(line).is_some() as u64;
-        seen.number(number);
-        match (number, carrying.nothing) {
-            (0, _) => {
-                carrying.times += 1;
-                seen.effect(found, carrying.since, carrying.times);
-            }
-            (26, Some(why)) => seen.nothing(why, held),
-            _ => {}
-        }
-    }
-
-    /// A whole line before anything else follows it; whether it has carried a move on.
-    pub(super) fn carry_line(&mut self, line: &[u8], number: u8) -> bool {
-        let command = read_line(line).ok().map(|read| read.command);
-        if command == Some(Command::CarryOn) {
-            self.carry_on(line, number);
-        }
-        match command {
-            Some(command) if number == 0 => self.carrying.accepted(command, self.status),
-            _ => self.carrying.mark(since_refused(line)),
-        }
-        command == Some(Command::CarryOn) && number == 0
-    }
-
-    /// A tick that ends the move.
-    pub(super) fn end_carried(&mut self, entry: &Entry) {
-        self.carrying.end(entry, self.stop_begun);
-        if self.carrying.times == 0 {
-            return;
-        }
-        match (entry.cause, self.stop_begun) {
-            (COMPLETE, false) => self.seen.carried.whole += 1,
-            (COMPLETE, true) => self.seen.carried.whole_in_stop += 1,
-            _ => self.seen.carried.stopped += 1,
         }
     }
 }

@@ -86,7 +86,8 @@ impl Operator {
         self.silence(bench);
     }
 
-    /// A start that waits in silence until the watch is full, so that its move meets the watch in its first tick.
+    /// A start that waits in silence until the watch is full, so that its move meets the watch in its first tick; at
+    /// times a carry-on breaks the silence, with nothing to carry on.
     fn stored_past_watch<B: Bench>(&mut self, bench: &mut B) {
         self.set_watch(bench);
         self.dwell_ms = WATCH_FULL / TICKS_PER_MS + self.random.below(60);
@@ -99,7 +100,13 @@ impl Operator {
             self.run_calm(bench, count);
         }
         self.store_start(bench);
-        self.run_calm(bench, TICKS_PER_MS * self.dwell_ms);
+        let whole = TICKS_PER_MS * self.dwell_ms;
+        let early = if self.random.chance(40) { self.random.below(whole) } else { 0 };
+        if early > 0 {
+            self.run_calm(bench, early);
+            self.order(bench, line::carry_on());
+        }
+        self.run_calm(bench, whole - early);
         self.order(bench, line::status());
     }
 
@@ -128,13 +135,15 @@ impl Operator {
         bench.ticks_left() > WATCH_FULL + 100
     }
 
-    /// One line of any kind, right or not, at times a carry-on.
+    /// One line of any kind, right or not, at rest often a carry-on.
     fn disturb<B: Bench>(&mut self, bench: &mut B) {
-        if self.random.chance(60) {
+        if bench.machine().status() & MOVING == 0 && self.random.chance(50) {
+            self.order(bench, line::carry_on());
+        } else if self.random.chance(60) {
             self.mistake(bench);
-            return;
+        } else {
+            let order = self.any_order();
+            self.order(bench, order);
         }
-        let order = if self.random.chance(30) { line::carry_on() } else { self.any_order() };
-        self.order(bench, order);
     }
 }

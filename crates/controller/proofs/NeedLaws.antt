@@ -35,7 +35,7 @@ module _ (m : Machine) (f : Fits m) where
   axis-fits e k h =
       let under = f .move .good .under e in
       let axis = f .move .good .axis k h in
-      let room = f .places .room e k h in
+      let room = f .places .room k h in
       let remainder = each-at (λ j. gone (m .move) * m .move .plan .distance j % whole (m .move)) 0 k h in
       let distance = each-at (m .move .plan .distance) 0 k h in
       let minus = each-at (m .move .plan .minus) false k h in

@@ -74,7 +74,7 @@ module _ (m : Machine) (f : Fits m) (e : m .move .moving ≡ true) where
   step-axis k h =
       axis-is (m .move .plan .distance k) (whole (m .move)) (gone (m .move)) (m .move .travel k)
       (f .move .good .under e) (f .move .good .axis k h) (m .position k) (m .move .plan .minus k)
-      (f .places .inside k h) (f .places .room e k h)
+      (f .places .inside k h) (f .places .room k h)
       ∙ (λ i. record {
         travel = stepAxis k .travel;
         position = stepAxis k .position;

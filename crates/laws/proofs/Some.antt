@@ -36,3 +36,6 @@ module _ (f : ℕ → Bool) where
 pub some-same : (f g : ℕ → Bool) → ((k : ℕ) → k < 5 → f k ≡ g k) → some f ≡ some g
 some-same f g e i =
     e 0 (omega arith) i || e 1 (omega arith) i || e 2 (omega arith) i || e 3 (omega arith) i || e 4 (omega arith) i
+
+pub some-none : (f : ℕ → Bool) → ((k : ℕ) → k < 5 → f k ≡ false) → some f ≡ false
+some-none f e = some-same f (λ k. false) e

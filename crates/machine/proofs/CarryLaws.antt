@@ -11,7 +11,7 @@ use lib.IntN.{ℤ, _+ℤ_}
 use Rattle.laws.specs.Axes.{some, directed}
 use Rattle.laws.specs.Bits.{bit}
 use Rattle.laws.proofs.Pick.{by-bool, by-eq}
-use Rattle.laws.proofs.Some.{some-same}
+use Rattle.laws.proofs.Some.{some-same, some-none}
 use Rattle.digits.specs.declared.Ident.{Ident}
 use Rattle.line.specs.declared.command.Command.the-variants as C
 use Rattle.inputs.specs.Inputs.{blockedAt}
@@ -32,6 +32,8 @@ use Rattle.machine.specs.Carry.{
   CarryOn,
 }
 use Rattle.machine.proofs.BitLaws.{status-stopped, status-emergency, status-sensed}
+use Rattle.machine.proofs.PositionLaws.{lies}
+use Rattle.machine.proofs.FitLaws.{fits as in-range}
 use Rattle.machine.proofs.Told.{Told}
 use Rattle.machine.proofs.ListLaws.{told}
 use Rattle.machine.proofs.JournalLaws.{ticks-run}
@@ -57,6 +59,11 @@ module _ (s : ℕ) (h : List Call) where
   same-final : some (λ k. outside (final m (openPlan m) k)) ≡ some (λ k. outside (finalAfter s h k))
   same-final =
       some-same _ _ (λ k l i. outside (t .sums k i +ℤ directed (t .minuses k i) (open-distance k l i)))
+
+  -- What is open stays in range.
+  room : some (λ k. outside (final m (openPlan m) k)) ≡ false
+  room = some-none _ (λ k l. lies (openPlan m .minus k) (m .position k) (openPlan m .distance k)
+      (in-range s h .places .inside k l) (in-range s h .places .room k l) .inside)
 
   -- By whether a move runs.
   number-is : number m (C.Order 12) ≡ carryNumberAfter s h
@@ -173,6 +180,7 @@ pub carry-on : CarryOn
 unfolding run
 carry-on s h b buffer l = record {
   number = told-number (state s h) b buffer l ∙ number-is s h;
+  inRange = sym (same-final s h) ∙ room s h;
   taken = λ e. onward s h b buffer l (number-is s h ∙ e);
   refused = λ e. refused-is (state s h) b buffer l (λ q. e (sym (number-is s h) ∙ q))
       ∙ zeroes (heardBy (state s h) b) (λ q. e (sym (number-is s h) ∙ q));

@@ -36,7 +36,7 @@ fits-power s =
       phase = omega arith;
       ticks = λ q. true-false false q refl;
       within = λ k h. omega arith;
-    }) (record { inside = λ k h. refl; room = λ q. true-false false q refl })
+    }) (record { inside = λ k h. refl; room = λ k h. omega arith })
     (record { left = omega arith; waiting = omega arith })
 
 pub fits-tick : (m : Machine) (w : ℕ) (d : List ℕ) → Fits m → Fits (tickStep m w d .machine)

@@ -96,7 +96,7 @@ fits-order m b code f =
     (λ e. fits-same m _ f refl refl refl refl refl)
     (λ e. fits-of _ (f .settings) (f .next) (f .move) (record {
       inside = λ k l. refl;
-      room = λ q k l. reset-room (m .move .plan .minus k) (m .move .plan .distance k) (m .move .travel k)
+      room = λ k l. reset-room (m .move .plan .minus k) (m .move .plan .distance k) (m .move .travel k)
           (f .move .plan k l);
     }) (f .pause))
     (fits-carrying m b f)

@@ -41,7 +41,7 @@ use Rattle.machine.proofs.ShareLaws.{share-grows, share-once}
 use Rattle.machine.proofs.Runs.{Good, good-tallied}
 use Rattle.machine.proofs.PulseLaws.{master-to, step-pulse, runs-step, runs-end}
 use Rattle.machine.proofs.PositionLaws.{Room, place-step}
-use Rattle.machine.proofs.Fits.{SettingsFit, PlanFits, PauseFits, Fits, fits-of}
+use Rattle.machine.proofs.Fits.{SettingsFit, PlanFits, PlacesFit, PauseFits, Fits, fits-of}
 
 pub braked-small : (u a : ℕ) → u ≤ full → braked u a ≤ full
 braked-small u a h =
@@ -90,7 +90,7 @@ ramped-above s v f h n =
 fits-ended : (m : Machine) → SettingsFit (m .settings) → PlanFits (m .next) → Good (atRest (m .move))
     → PlanFits (m .move .plan) → m .move .master < 5
     → ((k : ℕ) → k < 5 → m .move .travel k ≤ m .move .plan .distance k)
-    → ((k : ℕ) → k < 5 → outside (m .position k) ≡ false) → PauseFits (m .pause) → Fits (ended m)
+    → PlacesFit (m .move) (m .position) → PauseFits (m .pause) → Fits (ended m)
 fits-ended m s n g p k t o q =
     fits-of _ s n (record {
       good = g;
@@ -100,7 +100,7 @@ fits-ended m s n g p k t o q =
       phase = omega arith;
       ticks = λ r. true-false false r refl;
       within = t;
-    }) (record { inside = o; room = λ r. true-false false r refl })
+    }) (record { inside = o .inside; room = o .room })
     (record { left = let r = s .dwell in omega (arith, r); waiting = q .waiting })
 
 module _ (m : Machine) (f : Fits m) (e : m .move .moving ≡ true) where
@@ -123,7 +123,7 @@ module _ (m : Machine) (f : Fits m) (e : m .move .moving ≡ true) where
       (m .move .plan .distance k - share (m .move) (gone (m .move) + 1) k))
       (sym (step-pulse m (f .move .good) e k h))
       (place-step (m .move .plan .minus k) (m .position k) (m .move .plan .distance k) (m .move .travel k)
-      (share (m .move) (gone (m .move) + 1) k) (f .places .inside k h) (f .places .room e k h)
+      (share (m .move) (gone (m .move) + 1) k) (f .places .inside k h) (f .places .room k h)
       (share-grows _ _ _ _ above (f .move .good .axis k h)) (share-once _ _ _ _ above (f .move .good .axis k h))
       (share-short k))
 
@@ -144,7 +144,7 @@ module _ (m : Machine) (f : Fits m) (e : m .move .moving ≡ true) where
         ticks = λ q. subst (λ (n : ℕ). m .move .ticks + 1 ≤ full * n + phase) (sym (master-to m (f .move .good) e))
             (let t = f .move .ticks e in omega (arith, t, d));
         within = λ k q. share-short k;
-      }) (record { inside = λ k q. place k q .0; room = λ r k q. place k q .1 }) (f .pause)
+      }) (record { inside = λ k q. place k q .0; room = λ k q. place k q .1 }) (f .pause)
 
   fits-pulsed : (u phase : ℕ) → u ≤ full → phase < full → m .move .phase < full + phase
       → Fits (pulsed (tallied m) u phase (gone (m .move) + 1) .machine)
@@ -159,7 +159,8 @@ module _ (m : Machine) (f : Fits m) (e : m .move .moving ≡ true) where
       when true q =
           fits-ended (stepped (tallied m) u phase (gone (m .move) + 1)) (f .settings) (f .next)
           (runs-end (tallied m) on e u phase (eqb-true (gone (m .move) + 1) (whole (m .move)) q) .good)
-          (f .move .plan) (f .move .master) (λ k r. share-short k) (λ k r. place k r .0) (f .pause)
+          (f .move .plan) (f .move .master) (λ k r. share-short k)
+          (record { inside = λ k r. place k r .0; room = λ k r. place k r .1 }) (f .pause)
       when false q =
           fits-stepped u phase h l d
           (runs-step (tallied m) on e u phase (eqb-false (gone (m .move) + 1) (whole (m .move)) q) .good)
@@ -189,7 +190,7 @@ fits-runs m f =
       under = λ r. true-false false r refl;
       fixed = λ r. true-false false r refl;
     }) (f .move .plan) (f .move .master)
-    (f .move .within) (f .places .inside) (f .pause))
+    (f .move .within) (record { inside = f .places .inside; room = f .places .room }) (f .pause))
     (λ s. fits-advanced m f (not-false (m .move .moving) q) (ramped (m .settings) (m .move))
     (m .move .phase + ramped (m .settings) (m .move))
     (ramped-small (m .settings) (m .move) (f .settings) (f .move .speed))

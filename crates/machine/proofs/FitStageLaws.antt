@@ -7,9 +7,9 @@ use borrow.Author.Tests.{eqb-true}
 use lib.Dec.{eqb}
 use Rattle.laws.proofs.Pick.{by-bool}
 use Rattle.reply.specs.Reply.{bias}
-use Rattle.machine.specs.State.{Plan, Move, Machine, Waiting, none, start, withMove, withPause}
+use Rattle.machine.specs.State.{Move, Machine, Waiting, none, start, withMove, withPause}
 use Rattle.machine.specs.Stops.{takes, cause, stops, stopping}
-use Rattle.machine.specs.Starts.{startNumber, begun, openPlan, carried}
+use Rattle.machine.specs.Starts.{startNumber, begun, carried}
 use Rattle.machine.specs.Steps.{Tried, failed, began, tryStart, tryWaiting, tries, waits, looks}
 use Rattle.machine.proofs.Runs.{Good}
 use Rattle.machine.proofs.PositionLaws.{Room, leaves-is, room-of}
@@ -29,7 +29,7 @@ fits-begun m k f h r =
       phase = omega arith;
       ticks = λ q. omega arith;
       within = λ j l. omega arith;
-    }) (record { inside = f .places .inside; room = λ q j l. fresh j l })
+    }) (record { inside = f .places .inside; room = fresh })
     (record { left = omega arith; waiting = omega arith })
   where
     fresh : (j : ℕ) → j < 5 → Room (m .next .minus j) (bias (m .position j)) (m .next .distance j - 0)
@@ -48,16 +48,8 @@ fits-carried m f r =
       phase = omega arith;
       ticks = λ q. omega arith;
       within = f .move .within;
-    }) (record { inside = f .places .inside; room = λ q j l. left j l })
+    }) (record { inside = f .places .inside; room = f .places .room })
     (record { left = omega arith; waiting = omega arith })
-  where
-    p : Plan
-    p = openPlan m
-
-    left : (j : ℕ) → j < 5 → Room (p .minus j) (bias (m .position j)) (p .distance j)
-    left j l =
-        room-of (p .minus j) (bias (m .position j)) (p .distance j)
-        (leaves-is (p .minus j) (m .position j) (p .distance j) (f .places .inside j l) ∙ r .inside j l)
 
 -- ---- The tick, stage by stage
 

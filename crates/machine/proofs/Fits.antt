@@ -41,11 +41,10 @@ pub record MoveFits (v : Move) : Type 0 where
   pub ticks : v .moving ≡ true → v .ticks ≤ full * gone v + v .phase
   pub within : (k : ℕ) → k < 5 → v .travel k ≤ v .plan .distance k
 
--- Each position is in range, and a running move has room for what is left of it.
+-- Each position is in range, and the latest move, running or not, has room for what is left of it.
 pub record PlacesFit (v : Move) (p : ℕ → ℤ) : Type 0 where
   pub inside : (k : ℕ) → k < 5 → outside (p k) ≡ false
-  pub room : v .moving ≡ true → (k : ℕ) → k < 5
-      → Room (v .plan .minus k) (bias (p k)) (v .plan .distance k - v .travel k)
+  pub room : (k : ℕ) → k < 5 → Room (v .plan .minus k) (bias (p k)) (v .plan .distance k - v .travel k)
 
 pub record Fits (m : Machine) : Type 0 where
   pub settings : SettingsFit (m .settings)

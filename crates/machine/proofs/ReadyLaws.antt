@@ -1,5 +1,4 @@
--- What a start that no number of 12 to 17 turns away has, and a carry-on that neither 26 nor one of 12, 13, 16 and 17
--- does. Assumes nothing.
+-- What a start that no number of 12 to 17 turns away has, and a carry-on that 26 does not. Assumes nothing.
 use Prim.Native.Nat.{ℕ, _≤_, _<_}
 use mathlib.Core.Bool.{Bool, true, false, cond, not}
 use mathlib.Core.Path.{_≡_, refl}
@@ -18,7 +17,6 @@ use Rattle.machine.specs.Starts.{
   outside,
   final,
   canCarryOn,
-  openPlan,
   carryNumber,
   onwards,
 }
@@ -60,25 +58,18 @@ good-new m k r = record {
   fixed = λ q. refl;
 }
 
--- What a carry-on has that its own numbers do not turn away: the move is short of its end, no distance line came since,
--- and what is open stays in range.
+-- What a carry-on has that 26 does not turn away: the move is short of its end, and no distance line came since.
 pub record Resumable (m : Machine) : Type 0 where
   pub short : gone (m .move) < whole (m .move)
   pub fixed : m .move .replanned ≡ false
-  pub inside : (j : ℕ) → j < 5 → outside (final m (openPlan m) j) ≡ false
 
 pub resumable : (m : Machine) → carryNumber m ≡ 0 → Resumable m
 resumable m e =
     let p26 = passed (not (canCarryOn m)) 26 _ (omega arith) e in
-    let p12 = passed (m .flags .emergency) 12 _ (omega arith) (p26 .1) in
-    let p13 = passed (sensorActive m) 13 _ (omega arith) (p12 .1) in
-    let p16 = passed (blocked m (openPlan m)) 16 _ (omega arith) (p13 .1) in
-    let p17 = passed (some (λ j. outside (final m (openPlan m) j))) 17 _ (omega arith) (p16 .1) in
     let can = both _ _ (not-false (canCarryOn m) (p26 .0)) in
     record {
       short = ltb-true (gone (m .move)) (whole (m .move)) (can .0);
       fixed = not-true (m .move .replanned) (can .1);
-      inside = none-of (λ j. outside (final m (openPlan m) j)) (p17 .0);
     }
 
 pub good-onwards : (m : Machine) → Good (m .move) → Resumable m → Good (onwards (m .move))

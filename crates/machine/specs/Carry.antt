@@ -97,6 +97,8 @@ pub record Onward (s : ℕ) (h : List Call) (x : Call) : Type 0 where
 pub record CarriesAfter (s : ℕ) (h : List Call) (b : ℕ) (buffer : List ℕ) : Type 0 where
   -- the line meets the list's number
   pub number : byteStep (state s h) b buffer .number ≡ carryNumberAfter s h
+  -- and never 17: what is open of a move stays in range, resets or not
+  pub inRange : some (λ k. outside (finalAfter s h k)) ≡ false
   -- without one the move is carried on
   pub taken : carryNumberAfter s h ≡ 0 → Onward s h (byte b buffer)
   -- with one the line is dropped and zeroes the watch count, and nothing else alters
