@@ -9,6 +9,7 @@ use lib.IntN.{_+ℤ_}
 use Rattle.laws.specs.Axes.{some, directed}
 use Rattle.laws.specs.Bits.{bit}
 use Rattle.laws.proofs.Some.{some-same}
+use Rattle.block.specs.Block.{over}
 use Rattle.inputs.specs.Inputs.{blockedAt}
 use Rattle.machine.specs.Stops.{blocked, sensorActive, status}
 use Rattle.machine.specs.Starts.{turnedBy, outside}
@@ -16,15 +17,16 @@ use Rattle.machine.specs.Steps.{Outcome}
 use Rattle.machine.specs.Calls as calls
 use Rattle.machine.specs.Calls.{Call, state, buffer}
 use Rattle.machine.specs.Roles.{lineOf, roleBy, startBy, begins, carriesBy, setsDistance}
-use Rattle.machine.specs.List.{departure, distance, minus, master, paused, stopBegun, goesOn, ends, whole}
-use Rattle.machine.specs.Carry.{stoppedShort, openAfter, finalAfter}
+use Rattle.machine.specs.List.{startOrCarry, distance, minus, master, paused, stopBegun, goesOn, ends, whole}
+use Rattle.machine.specs.Settle.{switchOf}
+use Rattle.machine.specs.Carry.{stoppedShort, openAfter, finalAfter, carryNumberAfter, carryReply}
 use Rattle.machine.proofs.CarryLaws.{carry-on}
 use Rattle.machine.proofs.FitLaws.{fits as in-range}
 use Rattle.machine.proofs.ListLaws.{told}
 use Rattle.controller.specs.declared.state.PowerOn.{PowerOn}
 use Rattle.controller.specs.declared.state.ByteAnswer.{ByteAnswer}
 use Rattle.controller.specs.Answers.{Answered, byte, tick, stretch, Follows, callsOf}
-use Rattle.controller.specs.Carry.{shortIn, openIn, finalIn, CarryAnswers}
+use Rattle.controller.specs.Carry.{shortIn, openIn, finalIn, carryNumberIn, CarryAnswers}
 use Rattle.controller.proofs.AnswerLaws.{last-held, count-held, sum-held}
 use Rattle.controller.proofs.GatherLaws.{gathers, by-characters}
 
@@ -42,13 +44,13 @@ unfolding shortIn stoppedShort ends
 short-held s p [] f = refl
 short-held s p (byte b before exit r ∷ l) f =
     ap (λ (t : Bool). not (setsDistance (lineOf (state s (callsOf l)) (calls.byte b before)))
-    && (not (departure s (callsOf l) (calls.byte b before)) && t)) (short-held s p l (f .0))
+    && (not (startOrCarry s (callsOf l) (calls.byte b before)) && t)) (short-held s p l (f .0))
 short-held s p (tick w before exit r ∷ l) f =
     let h = calls.tick w before ∷ callsOf l in
     let small = subst (λ (j : ℕ). j < 5) (told s h .masters) (in-range s h .move .master) in
     λ i. cond (ends s h)
     (stopBegun s h && ltb (count-held s p (tick w before exit r ∷ l) f (master s h) small i) (whole s h))
-    (not (departure s (callsOf l) (calls.tick w before)) && short-held s p l (f .0) i)
+    (not (startOrCarry s (callsOf l) (calls.tick w before)) && short-held s p l (f .0) i)
 short-held s p (stretch bs r ∷ l) f =
     short-held s p l (f .0) ∙ sym (by-characters (stoppedShort s) (short-before s) bs (callsOf l))
 
@@ -68,14 +70,25 @@ module _ (s : ℕ) (p : PowerOn) (l : List Answered) (f : Follows s p l) where
       some-same _ _ (λ k h i. outside (sym (sum-held s p l f k h) i
       +ℤ directed (minus s (callsOf l) k) (open-held k h i)))
 
+  number-held : carryNumberAfter s (callsOf l) ≡ carryNumberIn s l
+  number-held = λ i.
+      turnedBy 11 (goesOn s (callsOf l))
+      (turnedBy 26 (not (sym (short-held s p l f) i))
+      (turnedBy 12 (bit (status (state s (callsOf l))) 5)
+      (turnedBy 13 (sensorActive (state s (callsOf l)))
+      (turnedBy 16 (barred i)
+      (turnedBy 17 (out i)
+      0)))))
+
 pub carry-answers : CarryAnswers
-carry-answers s p l b before exit r f line =
-    ap (λ (a : ByteAnswer). a .number) (f .1 .0 s (callsOf l) (last-held s p l (f .0)))
-    ∙ (carry-on s (callsOf l) b before line .number
-    ∙ λ i. turnedBy 11 (goesOn s (callsOf l))
-    (turnedBy 26 (not (sym (short-held s p l (f .0)) i))
-    (turnedBy 12 (bit (status (state s (callsOf l))) 5)
-    (turnedBy 13 (sensorActive (state s (callsOf l)))
-    (turnedBy 16 (barred s p l (f .0) i)
-    (turnedBy 17 (out s p l (f .0) i)
-    0))))))
+carry-answers s p l b before exit r f c =
+    let e = last-held s p l (f .0) in
+    let q = carry-on s (callsOf l) b before c in
+    record {
+      number = ap (λ (a : ByteAnswer). a .number) (f .1 .0 s (callsOf l) e)
+          ∙ (q .number ∙ number-held s p l (f .0));
+      reply = f .1 .1 .0 s (callsOf l) e
+          ∙ (ap (λ (x : List ℕ). over x before) (q .reply)
+          ∙ ap (λ (n : ℕ). over (cond (c .silent) [] (carryReply (switchOf s) n (c .digits) (c .ident))) before)
+          (number-held s p l (f .0)));
+    }

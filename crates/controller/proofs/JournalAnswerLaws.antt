@@ -16,7 +16,7 @@ use Rattle.machine.specs.Steps.{Outcome, tickStep}
 use Rattle.machine.specs.Calls as calls
 use Rattle.machine.specs.Calls.{Call, state, buffer, bytes}
 use Rattle.machine.specs.Roles.{begins, carriesBy, isTaken, roleBy, startBy}
-use Rattle.machine.specs.List.{effect, departure, paused, master, ends, whole}
+use Rattle.machine.specs.List.{effect, startOrCarry, paused, master, ends, whole}
 use Rattle.machine.specs.Journal.{ticksSince, moved, moveEntry, latestEntry}
 use Rattle.machine.proofs.FitLaws.{fits as in-range}
 use Rattle.machine.proofs.ListLaws.{told}
@@ -55,7 +55,7 @@ ticks-held : (s : ℕ) (l : List Answered) → ticksIn s l ≡ ticksSince s (cal
 unfolding ticksIn ticksSince
 ticks-held s [] = refl
 ticks-held s (byte b before exit r ∷ l) =
-    ap (cond (departure s (callsOf l) (calls.byte b before)) 0) (ticks-held s l) ∙ omega arith
+    ap (cond (startOrCarry s (callsOf l) (calls.byte b before)) 0) (ticks-held s l) ∙ omega arith
 ticks-held s (tick w before exit r ∷ l) =
     λ i. cond (begins (effect s (callsOf l) (calls.tick w before))) 0 (ticks-held s l i)
     + weight (isTaken (calls.tick w before)) 1

@@ -61,9 +61,14 @@ start-is m k h f = λ i.
     (cond (some (λ j. ltb (each-at (m .next .distance) 0 k h i) (m .next .distance j))) 14
     (cond (eqb (each-at (m .next .distance) 0 k h i) 0) 15
     (cond (blocked m (m .next)) 16
-    (cond (leave-is m f (m .next) 0 (lit< tt) i || leave-is m f (m .next) 1 (lit< tt) i || leave-is m f (m .next) 2 (lit< tt) i
-    || leave-is m f (m .next) 3 (lit< tt) i || leave-is m f (m .next) 4 (lit< tt) i) 17
+    (cond (out 0 (lit< tt) i || out 1 (lit< tt) i || out 2 (lit< tt) i || out 3 (lit< tt) i || out 4 (lit< tt) i) 17
     0)))))
+  where
+    out : (j : ℕ) → j < 5
+        → cond (m .next .minus j) (ltb (bias (m .position j)) (m .next .distance j))
+        (ltb 1048575 (bias (m .position j) + m .next .distance j))
+        ≡ outside (final m (m .next) j)
+    out = leave-is m f (m .next)
 
 -- ---- What a start begins
 

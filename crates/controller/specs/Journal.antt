@@ -15,7 +15,7 @@ use Rattle.journal.specs.Entries.{fits}
 use Rattle.machine.specs.Entries.{EntryAnswer, noEntry, entry}
 use Rattle.machine.specs.Calls as calls
 use Rattle.machine.specs.Roles.{begins, isTaken}
-use Rattle.machine.specs.List.{effect, departure, master, ends, whole}
+use Rattle.machine.specs.List.{effect, startOrCarry, master, ends, whole}
 use Rattle.controller.specs.declared.state.PowerOn.{PowerOn}
 use Rattle.controller.specs.declared.state.TickAnswer.{TickAnswer}
 use Rattle.controller.specs.Answers.{
@@ -45,9 +45,9 @@ latestEntryIn (stretch bs r ∷ l) = afterBytes noEntry (beforeEnd bs) (latestEn
 -- included, or since its last carry-on (6/14). No line ends in a stretch.
 unfoldable pub ticksIn : ℕ → List Answered → ℕ
 ticksIn s [] = 0
-ticksIn s (byte b before exit r ∷ l) = cond (departure s (callsOf l) (calls.byte b before)) 0 (ticksIn s l)
+ticksIn s (byte b before exit r ∷ l) = cond (startOrCarry s (callsOf l) (calls.byte b before)) 0 (ticksIn s l)
 ticksIn s (tick w before exit r ∷ l) =
-    cond (departure s (callsOf l) (calls.tick w before)) 0 (ticksIn s l)
+    cond (startOrCarry s (callsOf l) (calls.tick w before)) 0 (ticksIn s l)
     + weight (isTaken (calls.tick w before)) 1
 ticksIn s (stretch bs r ∷ l) = ticksIn s l
 

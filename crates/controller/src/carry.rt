@@ -18,7 +18,7 @@ use crate::state::Plan;
 use crate::state::Run;
 use crate::state::Settings;
 
-// Whether there is a move to carry on: at rest it is short of its end where a stop ended it so, and only there.
+// Whether there is a move to carry on: at rest it is short of M where a stop ended it so, and only there.
 fn can_carry_on(run: Run) -> bool
     ensures { λ r. ⌜ r ≡ canCarryOnOf run ⌝ }
 {

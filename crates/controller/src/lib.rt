@@ -54,8 +54,8 @@ mod words;
 // the gate keeps them: they speak of the machine whose held values every entry answers. The same theorem over the
 // answers of these entries themselves stands beside it (`Demand3Answers`). So do the two about the journal's entries
 // (`Journal`, `JournalAnswers`), with computed ones (`EntryWitness`), the one about the watch that is on from here
-// (`Watch`), the two about the blocks of W lines (`Settles`, `SettlesAnswers`), with computed ones (`BlockWitness`), and
-// the two about carry-ons (`CarryOn`, `CarryAnswers`), with a computed one (`CarryWitness`).
+// (`Watch`), the two about the blocks of W lines (`Settles`, `SettlesAnswers`), with computed ones (`BlockWitness`),
+// and the two about carry-ons (`CarryOn`, `CarryAnswers`), with a computed one (`CarryWitness`).
 pub fn power_on(switch: u8) -> PowerOn
     ensures { λ r. ⌜ r ≡ heldPower switch ⌝ }
     ensures { λ r. ⌜ Reachable (r .controller) ⌝ }

@@ -47,8 +47,8 @@ rowP k v =
     (cond (isWithin k 8 12) (Listed 6 (C.Set k v))
     Unlisted))
 
--- Q: 0-4 travel, 6 status, 9 stop, A clear bit 2, B position reset, one to six digits; 8 start, two to six, second
--- digit the master, or 8 more for a start after the dwell; D low-ON, E high-ON, six.
+-- Q: 0-4 travel, 6 status, 9 stop, A clear bit 2, B position reset, C carry on (paper 02, 6/14), one to six digits; 8
+-- start, two to six, second digit the master, or 8 more for a start after the dwell; D low-ON, E high-ON, six.
 abbrev pub rowQ : ℕ → ℕ → Row
 rowQ k v =
     cond (isAxis k) (Listed 1 (C.Read (R.Travel k)))

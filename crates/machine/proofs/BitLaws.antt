@@ -116,8 +116,8 @@ seventh-bit n true h = eq-eqb ((n + 64) / 64 % 2) 1 (omega arith)
 seventh-bit n false h = ne-eqb ((n + 0) / 64 % 2) 1 (λ (q : (n + 0) / 64 % 2 ≡ 1). omega arith)
 
 module _ (m : Machine) where
-  -- Status bit 3 says whether a stop by order, limit or watch was marked, bit 5 whether emergency is held, bit 6 whether
-  -- a stop by the sensor was marked.
+  -- Status bit 3 says whether a stop by order, limit or watch was marked, bit 5 whether emergency is held, bit 6
+  -- whether a stop by the sensor was marked.
   pub status-stopped : bit (status m) 3 ≡ m .flags .stopped
   status-stopped =
       fourth-bit (m .move .moving || ltb 0 (m .pause .left)) (m .move .moving) (m .flags .wrongMaster)

@@ -2,27 +2,40 @@
 -- nothing.
 use Prim.Native.Nat.{ℕ, _-_, _<_}
 use mathlib.Core.Bool.{Bool, true, false, cond, not, _&&_, _||_, or-false}
-use mathlib.Core.List.{List, _∷_}
+use mathlib.Core.List.{List, [], _∷_}
 use mathlib.Core.Path.{_≡_, refl, sym, ap, _∙_}
 use native.Mathlib.Omega.{arith}
 use borrow.Author.Tests.{eq-eqb, ne-eqb}
-use lib.Dec.{leb, eqb}
+use lib.Dec.{ltb, leb, eqb}
 use lib.IntN.{ℤ, _+ℤ_}
 use Rattle.laws.specs.Axes.{some, directed}
 use Rattle.laws.specs.Bits.{bit}
 use Rattle.laws.proofs.Pick.{by-bool, by-eq}
 use Rattle.laws.proofs.Some.{some-same, some-none}
 use Rattle.digits.specs.declared.Ident.{Ident}
+use Rattle.digits.specs.declared.Ident.the-variants.{Absent}
+use Rattle.reply.specs.Reply.{letterU, letterS, blockFor, replyOf, refusalOf}
 use Rattle.line.specs.declared.command.Command.the-variants as C
 use Rattle.inputs.specs.Inputs.{blockedAt}
-use Rattle.machine.specs.State.{Move, Machine, mark, withWatch, withFlags}
+use Rattle.machine.specs.State.{Move, none, Machine, mark, withMove, withWatch, withFlags, withPause}
 use Rattle.machine.specs.Stops.{blocked, sensorActive, status}
 use Rattle.machine.specs.Starts.{turnedBy, outside, final, canCarryOn, openPlan, carryNumber, notes}
 use Rattle.machine.specs.Commands.{number, turned}
-use Rattle.machine.specs.Steps.{Outcome, accepted, refused, outcomeOf, outcome, untaken, answered, heardBy, byteStep}
+use Rattle.machine.specs.Steps.{
+  Outcome,
+  accepted,
+  refused,
+  outcomeOf,
+  outcome,
+  untaken,
+  answered,
+  heardBy,
+  byteStep,
+}
 use Rattle.machine.specs.Calls.{Call, byte, run, state}
 use Rattle.machine.specs.List.{goesOn, signed}
 use Rattle.machine.specs.Carry.{
+  carryReply,
   openAfter,
   finalAfter,
   stoppedShort,
@@ -31,13 +44,14 @@ use Rattle.machine.specs.Carry.{
   Onward,
   CarryOn,
 }
-use Rattle.machine.proofs.BitLaws.{status-stopped, status-emergency, status-sensed}
+use Rattle.machine.proofs.BitLaws.{status-moving, status-stopped, status-emergency, status-sensed}
 use Rattle.machine.proofs.PositionLaws.{lies}
 use Rattle.machine.proofs.FitLaws.{fits as in-range}
 use Rattle.machine.proofs.Told.{Told}
 use Rattle.machine.proofs.ListLaws.{told}
 use Rattle.machine.proofs.JournalLaws.{ticks-run}
 use Rattle.machine.proofs.ShortLaws.{short-is}
+use Rattle.machine.proofs.SettleLaws.{tied}
 
 -- ---- The number
 
@@ -96,6 +110,24 @@ abbrev carries : Machine → Bool → Ident → ℕ → Bool → Outcome
 carries m silent ident digits taken =
     cond taken (accepted (C.Order 12) digits silent ident) (refused (number m (C.Order 12)) silent ident)
 
+-- None of its numbers is under 8: each is answered with the identification.
+module _ (m : Machine) where
+  abbrev Named : ℕ → Type 0
+  Named n = (n ≡ 0 → ⊥) → ltb n 8 ≡ false
+
+  named-by : (b : Bool) (n r : ℕ) → ltb n 8 ≡ false → Named r → Named (turnedBy n b r)
+  named-by b n r e z = by-bool Named b n r (λ _ _. e) (λ _. z)
+
+  named : Named (number m (C.Order 12))
+  named =
+      named-by (m .move .moving && true) 11 _ refl
+      (named-by (not (canCarryOn m)) 26 _ refl
+      (named-by (m .flags .emergency) 12 _ refl
+      (named-by (sensorActive m) 13 _ refl
+      (named-by (blocked m (openPlan m)) 16 _ refl
+      (named-by (some (λ k. outside (final m (openPlan m) k))) 17 _ refl
+      (λ q. absurd (q refl)))))))
+
 module _ (m : Machine) (b : ℕ) (buffer : List ℕ) (l : CarryLine m b buffer) where
   outcome-is : outcome m b buffer ≡ carries m (l .silent) (l .ident) (l .digits) (eqb (number m (C.Order 12)) 0)
   outcome-is = λ i. cond (l .lent i) untaken (outcomeOf m (l .heard i))
@@ -105,6 +137,21 @@ module _ (m : Machine) (b : ℕ) (buffer : List ℕ) (l : CarryLine m b buffer) 
       ap (λ (o : Outcome). answered m b o .number) outcome-is
       ∙ by-eq (λ (o : Outcome). answered m b o .number ≡ number m (C.Order 12)) (number m (C.Order 12)) 0 _ _
       (λ (e : number m (C.Order 12) ≡ 0). sym e) (λ e. refl)
+
+  told-reply : byteStep m b buffer .reply
+      ≡ cond (l .silent) [] (carryReply (m .switch) (number m (C.Order 12)) (l .digits) (l .ident))
+  unfolding replyOf refusalOf
+  told-reply =
+      ap (λ (o : Outcome). answered m b o .reply) outcome-is
+      ∙ by-eq (λ (o : Outcome). answered m b o .reply
+      ≡ cond (l .silent) [] (carryReply (m .switch) (number m (C.Order 12)) (l .digits) (l .ident)))
+      (number m (C.Order 12)) 0 _ _
+      (λ (e : number m (C.Order 12) ≡ 0). λ i. cond (l .silent) [] (cond (sym (eq-eqb _ 0 e) i)
+      (blockFor (m .switch) letterS (l .digits) (l .ident))
+      (blockFor (m .switch) letterU (number m (C.Order 12)) (l .ident))))
+      (λ (e : number m (C.Order 12) ≡ 0 → ⊥). λ i. cond (l .silent) [] (cond (sym (ne-eqb _ 0 e) i)
+      (blockFor (m .switch) letterS (l .digits) (l .ident))
+      (blockFor (m .switch) letterU (number m (C.Order 12)) (cond (named m e i) Absent (l .ident)))))
 
   by : {t : Bool} → eqb (number m (C.Order 12)) 0 ≡ t
       → carries m (l .silent) (l .ident) (l .digits) (eqb (number m (C.Order 12)) 0)
@@ -148,10 +195,11 @@ module _ (m : Machine) where
 -- ---- What an accepted one does
 
 onward : (s : ℕ) (h : List Call) (b : ℕ) (buffer : List ℕ) → CarryLine (state s h) b buffer
-    → number (state s h) (C.Order 12) ≡ 0 → Onward s h (byte b buffer)
+    → number (state s h) (C.Order 12) ≡ 0 → Onward s h b (byte b buffer)
 unfolding run
 onward s h b buffer l e = record {
   runs = sym (u .goes) ∙ moving;
+  moving = status-moving (state s (byte b buffer ∷ h)) ∙ moving;
   unstopped = sym (u .stops moving) ∙ ap (λ (a : Machine). a .move .stopping) p;
   master = sym (u .masters) ∙ (ap (λ (a : Machine). a .move .master) p ∙ told s h .masters);
   distances = λ k. sym (u .distances k) ∙ (ap (λ (a : Machine). a .move .plan .distance k) p ∙ told s h .distances k);
@@ -164,6 +212,9 @@ onward s h b buffer l e = record {
   sensed = status-sensed (state s (byte b buffer ∷ h)) ∙ ap (λ (a : Machine). a .flags .sensed) p;
   pause = sym (u .pause) ∙ ap (λ (a : Machine). a .pause) p;
   ticks = sym (ticks-run s (byte b buffer ∷ h) moving) ∙ ap (λ (a : Machine). a .move .ticks) p;
+  rest = p ∙ ap (λ (v : Move). withPause (withFlags (withMove (withWatch (heardBy (state s h) b) 0) v)
+      (mark (mark (state s h .flags) 3 false) 6 false)) (record { left = 0; waiting = none }))
+      (sym (ap (λ (a : Machine). a .move) p));
 }
   where
     p : byteStep (state s h) b buffer .machine
@@ -180,6 +231,8 @@ pub carry-on : CarryOn
 unfolding run
 carry-on s h b buffer l = record {
   number = told-number (state s h) b buffer l ∙ number-is s h;
+  reply = told-reply (state s h) b buffer l ∙ (λ i. cond (l .silent) []
+      (carryReply (tied s h .switch i) (number-is s h i) (l .digits) (l .ident)));
   inRange = sym (same-final s h) ∙ room s h;
   taken = λ e. onward s h b buffer l (number-is s h ∙ e);
   refused = λ e. refused-is (state s h) b buffer l (λ q. e (sym (number-is s h) ∙ q))

@@ -71,7 +71,7 @@ answer-holds s (x ∷ h) k l =
       sign = λ q. c .sign k l q ∙ ap (λ (b : Bool). directed b 1) (told s (x ∷ h) .minuses k);
     }
 
--- A start or a move under way is a departure or a move under way.
+-- A start or a move under way is a startOrCarry or a move under way.
 or-more : (a b c : Bool) → b || c ≡ true → (a || b) || c ≡ true
 or-more true b c e = refl
 or-more false b c e = e

@@ -1,5 +1,5 @@
--- Starts, distance lines, resets, order 9 and carry-ons: what each does to the latest move, the next one and the positions.
--- Assumes nothing.
+-- Starts, distance lines, resets, order 9 and carry-ons: what each does to the latest move, the next one and the
+-- positions. Assumes nothing.
 use Prim.Native.Nat.{ℕ, _<_}
 use mathlib.Core.Bool.{Bool, true, false, cond}
 use mathlib.Core.Path.{_≡_, refl, sym, ap, subst, _∙_}

@@ -15,7 +15,7 @@ use Rattle.machine.specs.Entries.{noEntry, entry, entryOf}
 use Rattle.machine.specs.Steps.{tickStep}
 use Rattle.machine.specs.Calls.{Call, byte, tick, after, run, state}
 use Rattle.machine.specs.Roles.{begins, isTaken, takesEffect}
-use Rattle.machine.specs.List.{effect, departure, master, counted, ends}
+use Rattle.machine.specs.List.{effect, startOrCarry, master, counted, ends}
 use Rattle.machine.specs.Journal.{ticksSince, moved, moveEntry}
 use Rattle.machine.proofs.BitLaws.{status-moving}
 use Rattle.machine.proofs.EntryLaws.{Entered, entered-tick}
@@ -43,8 +43,8 @@ entered-on s h w d =
     (told s h .pause) (entered-tick (state s h) w d (told s h .good))
 
 -- What a call adds to them.
-pub adds : (s : ℕ) (h : List Call) (x : Call) → departure s h x || state s h .move .moving ≡ true
-    → after (state s h) x .move .ticks ≡ cond (departure s h x) 0 (state s h .move .ticks) + weight (isTaken x) 1
+pub adds : (s : ℕ) (h : List Call) (x : Call) → startOrCarry s h x || state s h .move .moving ≡ true
+    → after (state s h) x .move .ticks ≡ cond (startOrCarry s h x) 0 (state s h .move .ticks) + weight (isTaken x) 1
 adds s h (byte b buffer) q = called-on s h (byte b buffer) (told s h) .ticks refl ∙ omega arith
 adds s h (tick w d) q = entered-on s h w d .ticks q
 
@@ -54,14 +54,14 @@ unfolding run ticksSince
 ticks-run s [] r = true-false false r refl
 ticks-run s (x ∷ h) r =
     let q = both _ _ (sym (called-on s h x (told s h) .goes) ∙ r) .0 in
-    adds s h x q ∙ next-ticks (departure s h x) (state s h .move .moving) _ _ _ q (ticks-run s h)
+    adds s h x q ∙ next-ticks (startOrCarry s h x) (state s h .move .moving) _ _ _ q (ticks-run s h)
 
 -- So are those of a move that a call ends.
-pub ticks-next : (s : ℕ) (h : List Call) (x : Call) → departure s h x || state s h .move .moving ≡ true
+pub ticks-next : (s : ℕ) (h : List Call) (x : Call) → startOrCarry s h x || state s h .move .moving ≡ true
     → after (state s h) x .move .ticks ≡ ticksSince s (x ∷ h)
 unfolding ticksSince
 ticks-next s h x q =
-    adds s h x q ∙ next-ticks (departure s h x) (state s h .move .moving) _ _ _ q (ticks-run s h)
+    adds s h x q ∙ next-ticks (startOrCarry s h x) (state s h .move .moving) _ _ _ q (ticks-run s h)
 
 -- ---- The entry
 

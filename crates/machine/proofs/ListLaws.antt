@@ -30,7 +30,7 @@ use Rattle.machine.specs.List.{
   lastDwell,
   paused,
   effect,
-  departure,
+  startOrCarry,
   lastDistance,
   lastMinus,
   started,
@@ -92,13 +92,13 @@ by-flag false f g = g refl
 
 -- A call after which the latest move does not run, though it did before or began in it, and no stop has begun in it.
 pub whole-end : (s : ℕ) (h : List Call) (x : Call) → Told s h
-    → departure s h x || state s h .move .moving ≡ true → after (state s h) x .move .moving ≡ false
-    → stopsIn (state s h) x || (not (departure s h x) && stopBegun s h) ≡ false
+    → startOrCarry s h x || state s h .move .moving ≡ true → after (state s h) x .move .moving ≡ false
+    → stopsIn (state s h) x || (not (startOrCarry s h x) && stopBegun s h) ≡ false
     → Whole (after (state s h) x .move) (sent (state s h) x)
 whole-end s h x t b e f = by-flag (isTick x)
     (λ i. c .ending i b e
-    (same-stop (stopsIn (state s h) x) (departure s h x) _ _
-    (λ n. t .stops (second (departure s h x) (state s h .move .moving) b n)) ∙ f))
+    (same-stop (stopsIn (state s h) x) (startOrCarry s h x) _ _
+    (λ n. t .stops (second (startOrCarry s h x) (state s h .move .moving) b n)) ∙ f))
     (λ i. true-false (after (state s h) x .move .moving)
     (c .goes ∙ (λ j. b j && (not (i j) || after (state s h) x .move .moving))) e)
   where
@@ -118,13 +118,13 @@ told-next s h x t = record {
   masters = c .master ∙ same-start S _ _ _ _ (λ j. refl) (t .masters);
   counts = λ k l. c .count k l ∙ ap (λ (n : ℕ). cond (begins S) 0 n + isPulse (sent m x k)) (t .counts k l);
   sums = λ k. c .sum k ∙ ap (λ (z : ℤ). cond (resetBy L) (pos 0) (z +ℤ sent m x k)) (t .sums k);
-  goes = c .goes ∙ (λ i. (departure s h x || t .goes i) && (not (isTick x) || sym (status-moving (after m x)) i));
+  goes = c .goes ∙ (λ i. (startOrCarry s h x || t .goes i) && (not (isTick x) || sym (status-moving (after m x)) i));
   stops = λ q. c .stopped q ∙ stop q;
   positive = λ q. either (begins S) (started s h) q (λ b. c .positive b)
       (λ b u. subst (λ (n : ℕ). 0 < n) (sym (size b)) (t .positive u));
-  rest = λ q e f k l. by-flag (departure s h x || state s h .move .moving)
+  rest = λ q e f k l. by-flag (startOrCarry s h x || state s h .move .moving)
       (λ b. whole-end s h x t b e f .there k l)
-      (λ b. let n = neither (departure s h x) (state s h .move .moving) b in
+      (λ b. let n = neither (startOrCarry s h x) (state s h .move .moving) b in
       let o = neither (carriesBy L) (begins S) (n .0) .1 in
       c .idle (n .0) (n .1) k l
       ∙ (t .rest (second (begins S) (started s h) q o) (n .1) (unstopped (n .0) f) k l ∙ sym (kept o k)));
@@ -143,10 +143,10 @@ told-next s h x t = record {
     c = called-on s h x t
 
     stop : after (state s h) x .move .moving ≡ true
-        → stopsIn (state s h) x || (not (departure s h x) && state s h .move .stopping)
-        ≡ stopsIn (state s h) x || (not (departure s h x) && stopBegun s h)
-    stop q = same-stop (stopsIn (state s h) x) (departure s h x) _ _
-        (λ b. t .stops (second (departure s h x) (state s h .move .moving)
+        → stopsIn (state s h) x || (not (startOrCarry s h x) && state s h .move .stopping)
+        ≡ stopsIn (state s h) x || (not (startOrCarry s h x) && stopBegun s h)
+    stop q = same-stop (stopsIn (state s h) x) (startOrCarry s h x) _ _
+        (λ b. t .stops (second (startOrCarry s h x) (state s h .move .moving)
         (both _ _ (sym (c .goes) ∙ q) .0) b))
 
     kept : begins (effect s h x) ≡ false → (k : ℕ)
@@ -158,8 +158,8 @@ told-next s h x t = record {
     size b = ap (λ (j : ℕ). after (state s h) x .move .plan .distance j)
         (c .master ∙ old-start (effect s h x) _ _ b) ∙ kept b (state s h .move .master)
 
-    unstopped : departure s h x ≡ false
-        → stopsIn (state s h) x || (not (departure s h x) && stopBegun s h) ≡ false → stopBegun s h ≡ false
+    unstopped : startOrCarry s h x ≡ false
+        → stopsIn (state s h) x || (not (startOrCarry s h x) && stopBegun s h) ≡ false → stopBegun s h ≡ false
     unstopped b f =
         let n = neither (stopsIn (state s h) x) _ f in
         subst (λ (w : Bool). not w && stopBegun s h ≡ false) b (n .1)

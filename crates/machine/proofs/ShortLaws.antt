@@ -13,7 +13,7 @@ use Rattle.machine.specs.Shares as shares
 use Rattle.machine.specs.Starts.{canCarryOn}
 use Rattle.machine.specs.Calls.{Call, byte, tick, after, run, state}
 use Rattle.machine.specs.Roles.{lineOf, setsDistance, carriesBy, begins}
-use Rattle.machine.specs.List.{effect, departure, distance, master, counted, stopBegun, ends, whole}
+use Rattle.machine.specs.List.{effect, startOrCarry, distance, master, counted, stopBegun, ends, whole}
 use Rattle.machine.specs.Carry.{stoppedShort}
 use Rattle.machine.proofs.FitLaws.{fits as in-range}
 use Rattle.machine.proofs.Told.{Told, Calls, called-on}
@@ -29,7 +29,7 @@ without true false was = refl
 without false true was = refl
 without false false was = refl
 
-module _ (s : ℕ) (h : List Call) (x : Call) (d : departure s h x ≡ false) (e : state s h .move .moving ≡ false) where
+module _ (s : ℕ) (h : List Call) (x : Call) (d : startOrCarry s h x ≡ false) (e : state s h .move .moving ≡ false) where
   c : Calls s h x
   c = called-on s h x (told s h)
 
@@ -49,14 +49,19 @@ module _ (s : ℕ) (h : List Call) (x : Call) (d : departure s h x ≡ false) (e
       ap (λ (j : ℕ). after (state s h) x .move .plan .distance j) same-master
       ∙ (c .distance (state s h .move .master) ∙ old-start (effect s h x) _ _ unbegun)
 
+  same-replanned : after (state s h) x .move .replanned
+      ≡ setsDistance (lineOf (state s h) x) || state s h .move .replanned
+  same-replanned =
+      c .replanned
+      ∙ ap (λ (b : Bool). setsDistance (lineOf (state s h) x) || (not b && state s h .move .replanned)) unbegun
+
   -- It can be carried on as before, unless the call is a distance line.
   at-rest : canCarryOn (after (state s h) x)
-      ≡ not (setsDistance (lineOf (state s h) x)) && (not (departure s h x) && canCarryOn (state s h))
+      ≡ not (setsDistance (lineOf (state s h) x)) && (not (startOrCarry s h x) && canCarryOn (state s h))
   at-rest =
-      (λ i. ltb (same-gone i) (same-length i)
-      && not ((c .replanned ∙ ap (λ (b : Bool). setsDistance (lineOf (state s h) x) || (not b && state s h .move .replanned))
-      unbegun) i))
-      ∙ (without (ltb (shares.gone (state s h .move)) (shares.whole (state s h .move))) (setsDistance (lineOf (state s h) x)) (state s h .move .replanned)
+      (λ i. ltb (same-gone i) (same-length i) && not (same-replanned i))
+      ∙ (without (ltb (shares.gone (state s h .move)) (shares.whole (state s h .move)))
+      (setsDistance (lineOf (state s h) x)) (state s h .move .replanned)
       ∙ ap (λ (b : Bool). not (setsDistance (lineOf (state s h) x)) && (not b && canCarryOn (state s h))) (sym d))
 
 -- ---- The end of a move
@@ -101,16 +106,16 @@ short-is s [] e = refl
 short-is s (byte b buffer ∷ h) e =
     at-rest s h (byte b buffer) (n .0) (n .1)
     ∙ ap (λ (t : Bool). not (setsDistance (lineOf (state s h) (byte b buffer)))
-    && (not (departure s h (byte b buffer)) && t)) (short-is s h (n .1))
+    && (not (startOrCarry s h (byte b buffer)) && t)) (short-is s h (n .1))
   where
-    n : (departure s h (byte b buffer) ≡ false) × (state s h .move .moving ≡ false)
+    n : (startOrCarry s h (byte b buffer) ≡ false) × (state s h .move .moving ≡ false)
     n = neither _ _ (and-true _ (sym (called-on s h (byte b buffer) (told s h) .goes) ∙ e))
 short-is s (tick w d ∷ h) e =
     by-flag (begins (effect s h (tick w d)) || state s h .move .moving)
     (λ b. at-end s h w d b e ∙ sym (rw (sym (ending-is s h w d) ∙ ended b)))
     (λ b. let n = neither (begins (effect s h (tick w d))) (state s h .move .moving) b in
     at-rest s h (tick w d) (n .0) (n .1)
-    ∙ (ap (λ (t : Bool). not (departure s h (tick w d)) && t) (short-is s h (n .1))
+    ∙ (ap (λ (t : Bool). not (startOrCarry s h (tick w d)) && t) (short-is s h (n .1))
     ∙ sym (rw (sym (ending-is s h w d) ∙ unended b))))
   where
     ended : begins (effect s h (tick w d)) || state s h .move .moving ≡ true → ending s h w d ≡ true

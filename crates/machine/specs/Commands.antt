@@ -31,7 +31,8 @@ use Rattle.machine.specs.State.{
 use Rattle.machine.specs.Stops.{emergencyActive, stopping, marks}
 use Rattle.machine.specs.Starts.{turnedBy, startNumber, begun, carryNumber, carried, notes}
 
--- 11 is for any start and any P but speed: distances, and the settings 9 to C; and for a carry-on, Q C (paper 02, 6/14).
+-- 11 is for any start and any P but speed: distances, and the settings 9 to C; and for a carry-on, Q C (paper 02,
+-- 6/14).
 abbrev pub wantsRest : Command → Bool
 wantsRest (C.Distance k s d) = true
 wantsRest (C.Set code v) = isWithin code 9 12
@@ -66,7 +67,7 @@ setAxis p k s d = record {
   minus = λ j. cond (eqb j k) s (p .minus j);
 }
 
--- Since then the latest move is not carried on (paper 02, 6/14).
+-- After a distance line the latest move is not carried on (paper 02, 6/14).
 abbrev pub replans : Move → Move
 replans v =
     moveOf (v .plan) (v .master) (v .travel) (v .speed) (v .phase) (v .ticks) (v .moving) (v .stopping) true

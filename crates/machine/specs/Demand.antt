@@ -41,7 +41,8 @@ pub record Answer (s : ℕ) (h : List Call) (k : ℕ) : Type 0 where
   pub sign : 0 < natAbs (latest s h k) → latest s h k ≡ directed (minus s h k) 1
 
 -- At the end of a move in which no stop begins m = M, every pump is at its distance, and all with a distance above 0
--- send a pulse in that one tick; it is their last, since the travel stays (`stays`).
+-- send a pulse in that one tick; it is their last, since the travel stays (`stays`). `ends` and `stopBegun` count only
+-- the calls since its last carry-on (paper 02, 6/14).
 pub record Ended (s : ℕ) (h : List Call) (k : ℕ) : Type 0 where
   pub full : gone s h ≡ whole s h
   pub there : travel s h k ≡ distance s h k

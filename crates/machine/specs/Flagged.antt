@@ -1,5 +1,5 @@
--- A list of calls in which a start is stored with status bits 3 and 6 set: stops set those bits and a move that begins
--- clears them, and storing a start is neither.
+-- A list of calls in which a start is stored with status bits 3 and 6 set: stops set those bits, a move that begins or
+-- is carried on clears them, and storing a start is neither.
 use mathlib.Core.List.{List, [], _∷_}
 use mathlib.Core.Path.{_≡_}
 use Rattle.machine.specs.State.{start}

@@ -15,13 +15,13 @@ use Rattle.machine.specs.Entries.{EntryAnswer, noEntry, entry}
 use Rattle.machine.specs.Steps.{tickStep}
 use Rattle.machine.specs.Calls.{Call, byte, tick, state}
 use Rattle.machine.specs.Roles.{begins, isTaken, sent}
-use Rattle.machine.specs.List.{effect, departure, master, counted, goesOn, ends, whole}
+use Rattle.machine.specs.List.{effect, startOrCarry, master, counted, goesOn, ends, whole}
 
 -- The ticks that were not turned away since the latest move's start took effect, for a stored start that very tick
 -- included, or since its last carry-on (6/14): those in which its ramp ran, until it ends.
 unfoldable pub ticksSince : ℕ → List Call → ℕ
 ticksSince s [] = 0
-ticksSince s (x ∷ h) = cond (departure s h x) 0 (ticksSince s h) + weight (isTaken x) 1
+ticksSince s (x ∷ h) = cond (startOrCarry s h x) 0 (ticksSince s h) + weight (isTaken x) 1
 
 -- The sum of the answers for an axis of all ticks since that start, across carry-ons.
 unfoldable pub moved : ℕ → List Call → ℕ → ℤ

@@ -25,7 +25,7 @@ use Rattle.machine.specs.Roles.{
   pauseAfter,
   resetBy,
   sent,
-  setsOff,
+  startsOrCarries,
   stopsIn,
   takesEffect,
 }
@@ -54,8 +54,8 @@ abbrev pub effect : ℕ → List Call → Call → Tried
 effect s h x = takesEffect (state s h) (paused s h) x
 
 -- Whether the call x after the list begins a move or carries the latest one on (paper 02, 6/14).
-abbrev pub departure : ℕ → List Call → Call → Bool
-departure s h x = setsOff (state s h) (paused s h) x
+abbrev pub startOrCarry : ℕ → List Call → Call → Bool
+startOrCarry s h x = startsOrCarries (state s h) (paused s h) x
 
 -- Whether a start has taken effect. That begins a move, the latest until another start takes effect.
 unfoldable pub started : ℕ → List Call → Bool
@@ -81,7 +81,7 @@ abbrev pub isPulse : ℤ → ℕ
 isPulse z = weight (not (eqb (natAbs z) 0)) 1
 
 -- The answers that are not 0 of all ticks since the latest move's start took effect, for a stored start that very tick
--- included.
+-- included. A carry-on does not begin the count again.
 unfoldable pub counted : ℕ → List Call → ℕ → ℕ
 counted s [] k = 0
 counted s (x ∷ h) k = cond (begins (effect s h x)) 0 (counted s h k) + isPulse (sent (state s h) x k)
@@ -96,14 +96,14 @@ signed s (x ∷ h) k = cond (resetBy (lineOf (state s h) x)) (pos 0) (signed s h
 unfoldable pub stopBegun : ℕ → List Call → Bool
 stopBegun s [] = false
 stopBegun s (x ∷ h) =
-    stopsIn (state s h) x || (not (departure s h x) && stopBegun s h)
+    stopsIn (state s h) x || (not (startOrCarry s h x) && stopBegun s h)
 
 -- Whether the latest move has not ended: no tick that counts for its pulses, since its last carry-on, has left status
 -- bit 1 at 0.
 unfoldable pub goesOn : ℕ → List Call → Bool
 goesOn s [] = false
 goesOn s (x ∷ h) =
-    (departure s h x || goesOn s h) && (not (isTick x) || moves (state s (x ∷ h)))
+    (startOrCarry s h x || goesOn s h) && (not (isTick x) || moves (state s (x ∷ h)))
 
 -- A move ends in the first tick that counts for its pulses and after which status bit 1 is 0.
 unfoldable pub ends : ℕ → List Call → Bool

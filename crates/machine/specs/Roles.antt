@@ -74,9 +74,9 @@ takesEffect m p (byte b buffer) = startBy p (roleBy (outcome m b buffer))
 takesEffect m p (tick w buffer) =
     cond (eqb (tickStep m w buffer .number) 0) (cond (eqb (p .left) 1) (named (p .waiting)) untried) untried
 
--- A move sets off: the latest one is carried on, or a start takes effect.
-abbrev pub setsOff : Machine → Pause → Call → Bool
-setsOff m p x = carriesBy (lineOf m x) || begins (takesEffect m p x)
+-- The latest move is carried on, or a start takes effect.
+abbrev pub startsOrCarries : Machine → Pause → Call → Bool
+startsOrCarries m p x = carriesBy (lineOf m x) || begins (takesEffect m p x)
 
 -- A start that is stored waits, and a later one replaces it; a plain start that takes effect drops it, and so do order
 -- 9 and a carry-on.
@@ -117,7 +117,7 @@ restsIn m p x = isTick x && ((begins (takesEffect m p x) || moves m) && not (mov
 abbrev pub leftAfter : Machine → Pause → ℕ → Call → ℕ
 leftAfter m p ms x =
     cond (restsIn m p x) (250 * ms)
-    (cond (setsOff m p x) 0
+    (cond (startsOrCarries m p x) 0
     (cond (isTaken x) (p .left - 1) (p .left)))
 
 abbrev pub pauseAfter : Machine → Pause → ℕ → Call → Pause

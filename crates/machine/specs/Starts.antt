@@ -34,9 +34,9 @@ startNumber m master =
     (turnedBy 17 (some (λ k. outside (final m (m .next) k)))
     0)))))
 
--- A move sets off: bits 3 and 6 are cleared, the dwell ends and a stored start is dropped.
-abbrev pub departs : Machine → Move → Machine
-departs m v =
+-- A move begins or is carried on: bits 3 and 6 are cleared, the dwell ends and a stored start is dropped.
+abbrev pub setRunning : Machine → Move → Machine
+setRunning m v =
     withPause (withFlags (withMove m v) (mark (mark (m .flags) 3 false) 6 false)) (record { left = 0; waiting = none })
 
 -- A move begins: the distances and directions set, travels at 0, speed, phase and ticks 0.
@@ -44,7 +44,7 @@ abbrev pub newMove : Plan → ℕ → Move
 newMove p master = moveOf p master (λ k. 0) 0 0 0 true false false
 
 abbrev pub begun : Machine → ℕ → Machine
-begun m master = departs m (newMove (m .next) master)
+begun m master = setRunning m (newMove (m .next) master)
 
 -- A start turned away by 14 sets bit 2.
 abbrev pub notes : Machine → ℕ → Machine
@@ -81,4 +81,4 @@ abbrev pub onwards : Move → Move
 onwards v = moveOf (v .plan) (v .master) (v .travel) 0 0 0 true false (v .replanned)
 
 abbrev pub carried : Machine → Machine
-carried m = departs m (onwards (m .move))
+carried m = setRunning m (onwards (m .move))

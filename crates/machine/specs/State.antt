@@ -23,8 +23,8 @@ pub record Plan : Type 0 where
   pub minus : ℕ → Bool
 
 -- The latest move: what it started with, its travels, its speed u in fiftieths of a unit, its phase, the ticks in which
--- its ramp ran (paper 02, 1/14), whether it runs and is being stopped, and whether a distance line was accepted since it
--- began (6/14). Before any move all is 0 and plus.
+-- its ramp ran (paper 02, 1/14), whether it runs and is being stopped, and whether a distance line was accepted since
+-- it began (6/14). Before any move all but that is 0 and plus.
 pub record Move : Type 0 where
   pub plan : Plan
   pub master : ℕ

@@ -33,7 +33,8 @@ watchBy gathered old = old
 watchBy (refused n silent ident) old = old
 watchBy (accepted c digits silent ident) old = watchOf c old
 
--- Accepted lines, and lines turned away by 10 to 17, zero the watch count.
+-- Accepted lines, and lines turned away by 10 to 17 or by a number that a later request adds (26), zero the watch
+-- count.
 abbrev pub zeroes : Outcome → Bool
 zeroes untaken = false
 zeroes gathered = false

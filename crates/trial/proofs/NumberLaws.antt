@@ -22,7 +22,8 @@ are-zeros t n e = subst (λ (x : Trial). Turned x n) e (refl, (refl, (refl, refl
 module _ (m : Machine) (k w n : ℕ) where
   own : w ≤ 16777215 → n ≤ 1000000 → k < 5 → trialOf m k w n .number ≡ number m (Start k false)
   own p q r =
-      by-bool (λ (t : Bool). trialOf m k w n .number ≡ startAnswer m k .number) (eqb (startAnswer m k .number) 0) true false
+      by-bool (λ (t : Bool). trialOf m k w n .number ≡ startAnswer m k .number) (eqb (startAnswer m k .number) 0) true
+      false
       (λ e.
       let z = eqb-true (startAnswer m k .number) 0 e in
       sym (ap (λ (t : Trial). t .number) (by-run m k w n p q (omega (arith, r)) z)) ∙ sym z)

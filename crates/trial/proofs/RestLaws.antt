@@ -102,7 +102,8 @@ module _ (m : Machine) (w : ℕ) (e : m .pause .waiting ≡ none) where
       still : runs (stops y) .machine ≡ y
       still =
           ap (λ (t : Bool). runs (cond (t && (y .flags .emergency || sensorActive y || limitOrWatch y))
-          (withFlags (withMove y (stopping (y .move))) (marks (y .flags) (limitOrWatch y) (sensorActive y))) y) .machine) r
+          (withFlags (withMove y (stopping (y .move))) (marks (y .flags) (limitOrWatch y) (sensorActive y))) y)
+          .machine) r
           ∙ ap (λ (t : Bool). cond {A = Ran} (not t) (quiet y) (ramps (tallied y)) .machine) r
 
       left : runs (stops (looks m w)) .machine ≡ y
@@ -123,7 +124,8 @@ module _ (m : Machine) (w : ℕ) (e : m .pause .waiting ≡ none) where
 
   abbrev Same : ℕ → ℕ → Type 0
   Same n i =
-      (afterTicks m w n .move ≡ afterTicks m w (suc i) .move) × ((afterTicks m w n .position ≡ afterTicks m w (suc i) .position)
+      (afterTicks m w n .move ≡ afterTicks m w (suc i) .move)
+      × ((afterTicks m w n .position ≡ afterTicks m w (suc i) .position)
       × ((afterTicks m w n .move .moving ≡ false) × (endOf m w (suc i) ≡ suc i)))
 
   same : (n i : ℕ) → endOf m w n ≡ suc i → Same n i

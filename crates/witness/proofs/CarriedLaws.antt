@@ -30,6 +30,7 @@ use Rattle.witness.specs.Carried.{
   carriedAgain,
   whole,
   dwelt,
+  farStopped,
   Resumed,
   Whole,
   Carryable,
@@ -65,7 +66,7 @@ ended = record {
 }
 
 carryable : Carryable
-unfolding sixOf numberOf blockOf judgeOf judgeRow replyOf refusalOf run begun ordered stopped late
+unfolding sixOf numberOf blockOf judgeOf judgeRow replyOf refusalOf run begun ordered stopped late farStopped
 carryable = record {
   taken = refl;
   still = refl;
@@ -80,6 +81,13 @@ carryable = record {
   sensor = refl;
   blocked = refl;
   first = refl;
+  sensorFirst = refl;
+  emergencyFirst = refl;
+  far = refl;
+  farGone = refl;
+  named = refl;
+  turnedNamed = refl;
+  unanswered = refl;
 }
 
 undwelt : Undwelt

@@ -37,6 +37,10 @@ whole = ticks 207 0 carriedAgain
 unfoldable pub dwelt : List Call
 dwelt = line "Q088" (tick 0 buffer ∷ lines ("P0A00001" ∷ "Q080" ∷ "Q09" ∷ []) prepared)
 
+-- The longest move, stopped in its 207th tick.
+unfoldable pub farStopped : List Call
+farStopped = ticks 208 0 (line "Q09" (ticks 207 0 (lines ("P007FFFF" ∷ "P08F4240" ∷ "P0900FFF" ∷ "Q080" ∷ []) [])))
+
 -- The first carry-on, and the stop in it.
 pub record Resumed : Type 0 where
   -- the move goes on, and no stop has begun in it since; its travels are those that the first stop left
@@ -79,10 +83,11 @@ abbrev pub answerTo : List Call → ℕ
 answerTo h = marked.told (state 0 h) "Q0C" .number
 
 pub record Carryable : Type 0 where
-  -- a stopped move is carried on; so it is after lines that were turned away (a start by 14, a speed of 0 by 10), other
-  -- settings, order 9 at rest and a position reset
+  -- a stopped move is carried on; so it is after lines that were turned away (a start by 14, a speed of 0 by 10, a
+  -- distance of too few digits by 9), other settings, order 9 at rest and a position reset
   pub taken : answerTo stopped ≡ 0
-  pub still : answerTo (lines ("Q081" ∷ "P0800000" ∷ "P0900001" ∷ "P0800001" ∷ "P0A00001" ∷ "Q09" ∷ "Q0B" ∷ []) stopped) ≡ 0
+  pub still : answerTo (lines ("Q081" ∷ "P0800000" ∷ "P000005" ∷ "P0900001" ∷ "P0A00001" ∷ "Q09" ∷ "Q0B" ∷ []) stopped)
+      ≡ 0
   -- the reply echoes the digits
   pub echoes : marked.told (state 0 stopped) "Q0C123" .reply ≡ chars "S0C12300\r"
   -- 11 while it runs, 26 before any move, after one that went its whole distance, though a stop had begun in it, and
@@ -98,6 +103,16 @@ pub record Carryable : Type 0 where
   pub sensor : answerTo (line "Q0D02000" stopped) ≡ 13
   pub blocked : answerTo (line "Q0D00002" stopped) ≡ 16
   pub first : answerTo (line "Q0D02000" prepared) ≡ 26
+  -- 13 comes before 16, and 12 before both
+  pub sensorFirst : answerTo (line "Q0D02002" stopped) ≡ 13
+  pub emergencyFirst : answerTo (tick 0 buffer ∷ line "Q0D03002" stopped) ≡ 12
+  -- 17 is over what is open: a move of 524,287 pulses that was stopped after some of them is carried on
+  pub far : answerTo farStopped ≡ 0
+  pub farGone : each (position 0 farStopped) ≡ pos 3 ∷ pos 0 ∷ pos 0 ∷ pos 0 ∷ pos 0 ∷ []
+  -- both replies have the identification, and a silent line has none
+  pub named : marked.told (state 0 stopped) "Q0C12345F" .reply ≡ chars "S0C12345F\r"
+  pub turnedNamed : marked.told (state 0 prepared) "Q0C00000A" .reply ≡ chars "U000001AA\r"
+  pub unanswered : marked.told (state 0 stopped) "Q4C" .reply ≡ []
 
 -- In a dwell, with a start that waits for its end: a carry-on ends the one and drops the other.
 pub record Undwelt : Type 0 where

@@ -112,7 +112,8 @@ returns-5 c =
     let l = master-fits o in (
       λ s h e.
           run-is (a .c) (a .master) (a .word) (a .ticks) (t .start .result) (t .start .ensures .0) (r .run .result)
-          (r .run .ensures) (c .shown .result) (c .shown .ensures) (omega (arith, l)) (omega (arith, b .if4 .left)) s h e
+          (r .run .ensures) (c .shown .result) (c .shown .ensures) (omega (arith, l)) (omega (arith, b .if4 .left)) s
+          h e
           ∙ by-run (state s h) (a .master) (a .word) (a .ticks) (word-fits o) (ticks-fit o) (master-fits o)
           (sym (ap (λ (x : ByteAnswer). x .number) (t .start .ensures .0 s h e)) ∙ omega (arith, b .if4 .left)),
       promises,
