@@ -119,13 +119,9 @@ module _ (l : List ℕ) where
   tries-aside : (m : Machine) → tries (withLine m l) ≡ tries m
   tries-aside m = ap (λ (t : Tried). cond (runsOut m) t untried) (waiting-aside m (m .pause .waiting))
 
-  takes-aside : (m : Machine) (w : ℕ) → takes (withLine m l) w ≡ withLine (takes m w) l
-  takes-aside m w = refl
-
   looks-aside : (m : Machine) (w : ℕ) → looks (withLine m l) w ≡ withLine (looks m w) l
   looks-aside m w =
-      ap (λ (x : Machine). waits x (tries x)) (takes-aside m w)
-      ∙ (ap (waits (withLine (takes m w) l)) (tries-aside (takes m w)) ∙ waits-aside (takes m w) (tries (takes m w)))
+      ap (waits (withLine (takes m w) l)) (tries-aside (takes m w)) ∙ waits-aside (takes m w) (tries (takes m w))
 
   ran-aside : (m : Machine) (w : ℕ)
       → runs (stops (looks (withLine m l) w)) .machine ≡ withLine (runs (stops (looks m w)) .machine) l

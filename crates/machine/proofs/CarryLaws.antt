@@ -1,37 +1,21 @@
 -- Paper 02, 6/14, for every list of calls: the number that a line Q C meets, and what an accepted one does. Assumes
 -- nothing.
 use Prim.Native.Nat.{ℕ, _-_, _<_}
-use mathlib.Core.Bool.{Bool, true, false, cond, not, _&&_, _||_, or-false}
+use mathlib.Core.Bool.{Bool, true, false, cond, not, _&&_}
 use mathlib.Core.List.{List, [], _∷_}
 use mathlib.Core.Path.{_≡_, refl, sym, ap, _∙_}
 use native.Mathlib.Omega.{arith}
-use borrow.Author.Tests.{eq-eqb, ne-eqb}
-use lib.Dec.{ltb, leb, eqb}
 use lib.IntN.{ℤ, _+ℤ_}
 use Rattle.laws.specs.Axes.{some, directed}
 use Rattle.laws.specs.Bits.{bit}
-use Rattle.laws.proofs.Pick.{by-bool, by-eq}
 use Rattle.laws.proofs.Some.{some-same, some-none}
-use Rattle.digits.specs.declared.Ident.{Ident}
-use Rattle.digits.specs.declared.Ident.the-variants.{Absent}
-use Rattle.reply.specs.Reply.{letterU, letterS, blockFor, replyOf, refusalOf}
 use Rattle.line.specs.declared.command.Command.the-variants as C
 use Rattle.inputs.specs.Inputs.{blockedAt}
 use Rattle.machine.specs.State.{Move, none, Machine, mark, withMove, withWatch, withFlags, withPause}
 use Rattle.machine.specs.Stops.{blocked, sensorActive, status}
-use Rattle.machine.specs.Starts.{turnedBy, outside, final, canCarryOn, openPlan, carryNumber, notes}
-use Rattle.machine.specs.Commands.{number, turned}
-use Rattle.machine.specs.Steps.{
-  Outcome,
-  accepted,
-  refused,
-  outcomeOf,
-  outcome,
-  untaken,
-  answered,
-  heardBy,
-  byteStep,
-}
+use Rattle.machine.specs.Starts.{turnedBy, outside, final, openPlan, carryNumber}
+use Rattle.machine.specs.Commands.{number}
+use Rattle.machine.specs.Steps.{accepted, answered, heardBy, byteStep}
 use Rattle.machine.specs.Calls.{Call, byte, run, state}
 use Rattle.machine.specs.List.{goesOn, signed}
 use Rattle.machine.specs.Carry.{
@@ -51,6 +35,7 @@ use Rattle.machine.proofs.Told.{Told}
 use Rattle.machine.proofs.ListLaws.{told}
 use Rattle.machine.proofs.JournalLaws.{ticks-run}
 use Rattle.machine.proofs.ShortLaws.{short-is}
+use Rattle.machine.proofs.CarryLineLaws.{zeroes, told-number, told-reply, taken-is, refused-is}
 use Rattle.machine.proofs.SettleLaws.{tied}
 
 -- ---- The number
@@ -101,96 +86,6 @@ module _ (s : ℕ) (h : List Call) where
           (turnedBy 16 (same-blocked i)
           (turnedBy 17 (same-final i)
           0))))
-
--- ---- The line
-
--- What comes of a byte that ends a line Q C, by whether a number turns it away, and the machine and the number that it
--- leaves.
-abbrev carries : Machine → Bool → Ident → ℕ → Bool → Outcome
-carries m silent ident digits taken =
-    cond taken (accepted (C.Order 12) digits silent ident) (refused (number m (C.Order 12)) silent ident)
-
--- None of its numbers is under 8: each is answered with the identification.
-module _ (m : Machine) where
-  abbrev Named : ℕ → Type 0
-  Named n = (n ≡ 0 → ⊥) → ltb n 8 ≡ false
-
-  named-by : (b : Bool) (n r : ℕ) → ltb n 8 ≡ false → Named r → Named (turnedBy n b r)
-  named-by b n r e z = by-bool Named b n r (λ _ _. e) (λ _. z)
-
-  named : Named (number m (C.Order 12))
-  named =
-      named-by (m .move .moving && true) 11 _ refl
-      (named-by (not (canCarryOn m)) 26 _ refl
-      (named-by (m .flags .emergency) 12 _ refl
-      (named-by (sensorActive m) 13 _ refl
-      (named-by (blocked m (openPlan m)) 16 _ refl
-      (named-by (some (λ k. outside (final m (openPlan m) k))) 17 _ refl
-      (λ q. absurd (q refl)))))))
-
-module _ (m : Machine) (b : ℕ) (buffer : List ℕ) (l : CarryLine m b buffer) where
-  outcome-is : outcome m b buffer ≡ carries m (l .silent) (l .ident) (l .digits) (eqb (number m (C.Order 12)) 0)
-  outcome-is = λ i. cond (l .lent i) untaken (outcomeOf m (l .heard i))
-
-  told-number : byteStep m b buffer .number ≡ number m (C.Order 12)
-  told-number =
-      ap (λ (o : Outcome). answered m b o .number) outcome-is
-      ∙ by-eq (λ (o : Outcome). answered m b o .number ≡ number m (C.Order 12)) (number m (C.Order 12)) 0 _ _
-      (λ (e : number m (C.Order 12) ≡ 0). sym e) (λ e. refl)
-
-  told-reply : byteStep m b buffer .reply
-      ≡ cond (l .silent) [] (carryReply (m .switch) (number m (C.Order 12)) (l .digits) (l .ident))
-  unfolding replyOf refusalOf
-  told-reply =
-      ap (λ (o : Outcome). answered m b o .reply) outcome-is
-      ∙ by-eq (λ (o : Outcome). answered m b o .reply
-      ≡ cond (l .silent) [] (carryReply (m .switch) (number m (C.Order 12)) (l .digits) (l .ident)))
-      (number m (C.Order 12)) 0 _ _
-      (λ (e : number m (C.Order 12) ≡ 0). λ i. cond (l .silent) [] (cond (sym (eq-eqb _ 0 e) i)
-      (blockFor (m .switch) letterS (l .digits) (l .ident))
-      (blockFor (m .switch) letterU (number m (C.Order 12)) (l .ident))))
-      (λ (e : number m (C.Order 12) ≡ 0 → ⊥). λ i. cond (l .silent) [] (cond (sym (ne-eqb _ 0 e) i)
-      (blockFor (m .switch) letterS (l .digits) (l .ident))
-      (blockFor (m .switch) letterU (number m (C.Order 12)) (cond (named m e i) Absent (l .ident)))))
-
-  by : {t : Bool} → eqb (number m (C.Order 12)) 0 ≡ t
-      → carries m (l .silent) (l .ident) (l .digits) (eqb (number m (C.Order 12)) 0)
-      ≡ carries m (l .silent) (l .ident) (l .digits) t
-  by e = ap (carries m (l .silent) (l .ident) (l .digits)) e
-
-  taken-is : number m (C.Order 12) ≡ 0
-      → byteStep m b buffer .machine ≡ answered m b (accepted (C.Order 12) (l .digits) (l .silent) (l .ident)) .machine
-  taken-is e =
-      ap (λ (o : Outcome). answered m b o .machine) (outcome-is ∙ by (eq-eqb _ 0 e))
-
-  refused-is : (number m (C.Order 12) ≡ 0 → ⊥)
-      → byteStep m b buffer .machine ≡ turned (heardBy m b) (number m (C.Order 12))
-  refused-is e =
-      ap (λ (o : Outcome). answered m b o .machine) (outcome-is ∙ by (ne-eqb _ 0 e))
-
--- Its numbers zero the watch count, and none of them is 14.
-module _ (m : Machine) where
-  abbrev Zeroes : ℕ → Type 0
-  Zeroes n = (n ≡ 0 → ⊥) → turned m n ≡ withWatch m 0
-
-  late : (n : ℕ) → leb 10 n ≡ true → eqb n 14 ≡ false → Zeroes n
-  late n e f q =
-      ap (λ (t : Bool). cond t (notes (withWatch m 0) n) m) e
-      ∙ ((λ i. withFlags (withWatch m 0) (mark (m .flags) 2 (m .flags .wrongMaster || f i)))
-      ∙ λ i. withFlags (withWatch m 0) (mark (m .flags) 2 (or-false (m .flags .wrongMaster) i)))
-
-  by-number : (b : Bool) (n r : ℕ) → leb 10 n ≡ true → eqb n 14 ≡ false → Zeroes r → Zeroes (turnedBy n b r)
-  by-number b n r e f z = by-bool Zeroes b n r (λ _. late n e f) (λ _. z)
-
-  zeroes : Zeroes (number m (C.Order 12))
-  zeroes =
-      by-number (m .move .moving && true) 11 _ refl refl
-      (by-number (not (canCarryOn m)) 26 _ refl refl
-      (by-number (m .flags .emergency) 12 _ refl refl
-      (by-number (sensorActive m) 13 _ refl refl
-      (by-number (blocked m (openPlan m)) 16 _ refl refl
-      (by-number (some (λ k. outside (final m (openPlan m) k))) 17 _ refl refl
-      (λ q. absurd (q refl)))))))
 
 -- ---- What an accepted one does
 

@@ -29,6 +29,7 @@ pub mod MovedLaws
 pub mod JournalLaws
 pub mod TakenLaws
 pub mod ShortLaws
+pub mod CarryLineLaws
 pub mod CarryLaws
 pub mod WatchStageLaws
 pub mod WatchLaws
