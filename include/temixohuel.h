@@ -48,7 +48,7 @@ enum {
     TEMIXOHUEL_LONGER = 14,         /* start: an axis longer than the master */
     TEMIXOHUEL_NO_DISTANCE = 15,    /* start: master distance 0 */
     TEMIXOHUEL_BLOCKED = 16,        /* start or carry-on: an axis blocked */
-    TEMIXOHUEL_POSITION = 17,       /* start or carry-on: a final position out of range */
+    TEMIXOHUEL_POSITION = 17,       /* start: a final position out of range */
     TEMIXOHUEL_SPACE = 22,          /* append: no space for the whole entry; nothing is written */
     TEMIXOHUEL_CUT = 23,            /* read: the bytes end within an entry */
     TEMIXOHUEL_SPELLING = 24,       /* a value out of range; read: or no shortest spelling of seven groups at most */
