@@ -5,10 +5,11 @@ use mathlib.Core.Bool.{Bool, true, false, cond, _&&_, _||_, or-true, or-false}
 use mathlib.Core.Path.{_≡_, refl, sym, ap, _∙_}
 use native.Mathlib.Omega.{arith}
 use native.Mathlib.Nat.{mod-eq-of-lt}
-use borrow.Author.Tests.{ltb-true, ltb-false, le-leb, lt-leb, ne-eqb}
+use borrow.Author.Tests.{ltb-true, ltb-false, lt-ltb, le-ltb, le-leb, lt-leb, ne-eqb}
 use lib.Dec.{ltb, eqb}
 use lib.IntN.{ℤ, pos, negsuc, _+ℤ_}
 use lib.ListN.{set}
+use Rattle.laws.specs.Bits.{weight}
 use Rattle.laws.specs.Axes.{each}
 use Rattle.laws.proofs.Five.{five}
 use Rattle.laws.proofs.Pick.{by-lt, by-eq}
@@ -33,9 +34,9 @@ use Rattle.machine.specs.Replies.{toldOf}
 use Rattle.machine.proofs.FitLaws.{Fits}
 use Rattle.controller.specs.declared.state.Controller.{Controller}
 use Rattle.controller.specs.Held.{held, heldHot, heldPlan, heldSettings, isGiven, characterOf}
-use Rattle.controller.specs.Inner.Parts.{withReplanned, withFlag, withHot, withNext, blockedIn}
+use Rattle.controller.specs.Inner.Parts.{withMaster, withFlag, withHot, withNext, blockedIn}
 use Rattle.controller.specs.Inner.Start.{begunOf, startNumberOf}
-use Rattle.controller.specs.Inner.Carry.{carryNumberOf}
+use Rattle.controller.specs.Inner.Carry.{replannedOf, carryNumberOf}
 use Rattle.controller.specs.Inner.Settings.{setSettingOf}
 use Rattle.controller.specs.Inner.Orders.{
   obeyStartOf,
@@ -86,20 +87,27 @@ stop-is m = when (m .move .moving)
         (sym (or-false (m .flags .sensed)) i))
     when false = refl
 
-pub does-is : (m : Machine) (c : Command) → CommandFits c → doesOf (held m) c ≡ held (does m c)
-does-is m (C.Distance k s d) h =
+-- The flag beside the master, once a distance line is accepted.
+replanned-is : (b : Bool) (k : ℕ) → k < 5 → replannedOf (k + weight b 256) ≡ k + 256
+replanned-is true k h = rw (le-ltb (k + 256) 256 (omega arith))
+replanned-is false k h = rw (lt-ltb (k + 0) 256 (omega arith)) (omega arith)
+
+pub does-is : (m : Machine) (c : Command) → Fits m → CommandFits c → doesOf (held m) c ≡ held (does m c)
+does-is m (C.Distance k s d) f h =
     let l = distance k s d h .0 in
-    λ i. withNext (withHot (held m) (withReplanned (heldHot m) true)) (record {
+    λ i. withNext
+    (withHot (held m) (withMaster (heldHot m) (replanned-is (m .move .replanned) (m .move .master) (f .move .master) i)))
+    (record {
       distances = set-is (m .next .distance) d k l i;
       minus = set-is (m .next .minus) s k l i;
     })
-does-is m (C.Set code v) h = setting-is m code v
-does-is m (C.Start k w) h = starting-is m k w (axis k h)
-does-is m (C.Order code) h =
+does-is m (C.Set code v) f h = setting-is m code v
+does-is m (C.Start k w) f h = starting-is m k w (axis k h)
+does-is m (C.Order code) f h =
     by-code (λ (k : ℕ). obeyOrderOf (held m) k ≡ held (obeys m k)) (stop-is m) refl refl
     (ap (withHot (held m)) (carried-is m)) (λ k p q r t. rw (p, q, r, t)) code
-does-is m (C.Outputs v) h = refl
-does-is m (C.Read r) h = refl
+does-is m (C.Outputs v) f h = refl
+does-is m (C.Read r) f h = refl
 
 pub awaits-is : (m : Machine) (c : Command) (silent : Bool) (ident : Ident)
     → awaitsOf (held m) c silent ident ≡ held (awaits m c silent ident)

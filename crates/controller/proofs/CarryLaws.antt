@@ -1,12 +1,16 @@
 -- A carry-on, done to what is held of a machine, is the machine's own, held; and so is its number. Assumes nothing.
 use Prim.Native.Nat.{ℕ, _+_, _≤_, _<_}
-use mathlib.Core.Bool.{Bool, true, false, cond, not, _||_}
-use mathlib.Core.Path.{_≡_, refl, _∙_}
+use mathlib.Core.Bool.{Bool, true, false, cond, not, _&&_, _||_}
+use mathlib.Core.Path.{_≡_, refl, ap, _∙_}
+use native.Mathlib.Omega.{arith}
+use borrow.Author.Tests.{lt-ltb, le-ltb}
 use lib.Dec.{ltb, lit<}
 use lib.ListN.{getD}
 use Rattle.laws.proofs.Five.{five}
 use Rattle.reply.specs.Reply.{bias}
+use Rattle.laws.specs.Bits.{weight}
 use Rattle.machine.specs.State.{Machine}
+use Rattle.machine.specs.Shares.{whole, gone}
 use Rattle.machine.specs.Stops.{sensorActive, blocked}
 use Rattle.machine.specs.Starts.{outside, final, canCarryOn, openPlan, carryNumber, carried}
 use Rattle.machine.proofs.FitLaws.{Fits}
@@ -31,9 +35,14 @@ module _ (m : Machine) (f : Fits m) where
       ≡ outside (final m (openPlan m) k)
   out = leave-is m f (openPlan m)
 
+  -- The flag beside the master.
+  can-is : (short b : Bool) (k : ℕ) → k < 5 → short && ltb (k + weight b 256) 256 ≡ short && not b
+  can-is short true k h = ap (λ (t : Bool). short && t) (le-ltb (k + 256) 256 (omega arith))
+  can-is short false k h = ap (λ (t : Bool). short && t) (lt-ltb (k + 0) 256 (omega arith))
+
   pub carry-is : carryNumberOf (heldSettings (m .settings)) (heldHot m) ≡ carryNumber m
   carry-is =
-      (λ i. cond (canCarryOn m)
+      (λ i. cond (can-is (ltb (gone (m .move)) (whole (m .move))) (m .move .replanned) (m .move .master) (f .move .master) i)
       (cond (m .flags .emergency) 12
       (cond (sensorActive m) 13
       (cond (blocked m (openPlan m)) 16

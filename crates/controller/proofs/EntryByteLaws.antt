@@ -105,7 +105,7 @@ lined-answer m b silent ident (Accepted c digits) f h =
     by true = (
       (λ i. record {
         controller = (ap (λ (x : Controller). awaitsOf (zeroWatchOf x) c silent ident)
-            (does-is (heardBy m b) c (h .command))
+            (does-is (heardBy m b) c f (h .command))
             ∙ awaits-is (withWatch (does (heardBy m b) c) 0) c silent ident) i;
         length = length (told silent i);
         number = 0;

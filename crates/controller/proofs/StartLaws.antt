@@ -86,8 +86,11 @@ begun-is m k h = λ i.
       travels = each (λ j. record { 0 = 0 });
       remainders = rest 0 i ∷ rest 1 i ∷ rest 2 i ∷ rest 3 i ∷ rest 4 i ∷ [];
       positions = heldHot m .counters .positions;
-    })) (runOf (each-at (m .next .distance) 0 k h i) 0 0 0 k false true false 0 0)
+    })) (runOf (each-at (m .next .distance) 0 k h i) 0 0 0 (alone i) true false 0 0)
   where
+    alone : k ≡ k + 0
+    alone = omega arith
+
     rest : (j : ℕ) → 0 ≡ 0 * m .next .distance j % m .next .distance k
     rest j = no-remainder (m .next .distance j) (m .next .distance k)
 

@@ -1,5 +1,5 @@
 -- How the controller holds the values of the machine: the one definition that says so. Positions are held with 524,288
--- added, the move's ticks in two halves; beside each travel stands the remainder of m × d / M; M, m and the parts of
+-- added, the move's ticks in two halves, whether it was replanned with its master; beside each travel stands the remainder of m × d / M; M, m and the parts of
 -- the output words are kept ready, and of the general outputs only their part of a word.
 use Prim.Native.Nat.{ℕ, _+_, _*_, _/_, _%_}
 use mathlib.Core.Bool.{Bool, true, false}
@@ -7,6 +7,7 @@ use mathlib.Core.List.{List, []}
 use lib.IntN.{ℤ}
 use lib.ListN.{length}
 use Rattle.laws.specs.Axes.{each}
+use Rattle.laws.specs.Bits.{weight}
 use Rattle.digits.specs.declared.Ident.{Ident}
 use Rattle.digits.specs.declared.Ident.the-variants.{Absent, Given}
 use Rattle.outputs.specs.Outputs.{generalOf, restOf, fireOf, stillOf}
@@ -64,6 +65,10 @@ ticksLeft n = n % round
 abbrev pub roundsOf : ℕ → ℕ
 roundsOf n = n / round
 
+-- The master, and 256 more once a distance line was accepted since the move began (paper 02, 6/14).
+abbrev pub heldMaster : M.Move → ℕ
+heldMaster v = v .master + weight (v .replanned) 256
+
 -- M and m stand beside the speed and the phase.
 abbrev pub heldRun : M.Move → Run
 heldRun v = record {
@@ -71,8 +76,7 @@ heldRun v = record {
   gone = gone v;
   speed = v .speed;
   phase = v .phase;
-  master = v .master;
-  replanned = v .replanned;
+  master = heldMaster v;
   moving = v .moving;
   stopping = v .stopping;
   ticks = ticksLeft (v .ticks);

@@ -3,6 +3,7 @@ ghost use mathlib.Core.Path.{_≡_};
 ghost use mathlib.Core.Bool.{_&&_};
 ghost use Prim.Native.Nat.{_<_};
 ghost use Rattle.controller.specs.Inner.Carry.{
+  replannedOf,
   canCarryOnOf,
   openAtOf,
   openPlanOf,
@@ -18,12 +19,25 @@ use crate::state::Plan;
 use crate::state::Run;
 use crate::state::Settings;
 
+// What a distance line adds to the master, as it is held.
+const REPLANNED: u16 = 256;
+
+// The master once a distance line was accepted.
+pub(crate) fn replanned(master: u16) -> u16
+    ensures { λ r. ⌜ r ≡ replannedOf master ⌝ }
+{
+    if master < REPLANNED {
+        return master + REPLANNED;
+    }
+    master
+}
+
 // Whether there is a move to carry on: at rest it is short of M where a stop ended it so, and only there.
 fn can_carry_on(run: Run) -> bool
     ensures { λ r. ⌜ r ≡ canCarryOnOf run ⌝ }
 {
     if run.gone < run.length {
-        return !run.replanned;
+        return run.master < REPLANNED;
     }
     false
 }

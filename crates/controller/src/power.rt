@@ -50,7 +50,6 @@ fn fresh_run() -> Run
         speed: 0,
         phase: 0,
         master: 0,
-        replanned: false,
         moving: false,
         stopping: false,
         ticks: 0,

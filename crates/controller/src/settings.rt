@@ -3,6 +3,7 @@ ghost use mathlib.Core.Path.{_≡_};
 ghost use Prim.Native.Nat.{_<_};
 ghost use Rattle.controller.specs.Inner.Parts.{put, withSetting};
 ghost use Rattle.controller.specs.Inner.Settings.{setAxisOf, rewireOf, setSettingOf, setOutputsOf};
+use crate::carry;
 use crate::state::Controller;
 use crate::state::Settings;
 
@@ -22,7 +23,8 @@ pub(crate) fn set_axis(c: Controller, axis: u8, minus: bool, length: u32) -> Con
     cold.next = plan;
     let mut next = c;
     next.cold = cold;
-    next.hot.run.replanned = true;
+    let master = carry::replanned(c.hot.run.master);
+    next.hot.run.master = master;
     next
 }
 

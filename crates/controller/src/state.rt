@@ -27,17 +27,17 @@ pub struct Plan {
     pub minus: [bool; 5],
 }
 
-// The latest move: the master's distance and travel, the speed in fiftieths of a unit, the phase, whether a distance
-// line was accepted since it began (paper 02, 6/14), and the ticks in which its ramp ran: `rounds` times 2 to the 32,
-// and `ticks`. In two halves a controller has 256 bytes; one of more costs a call from firmware 10 ns.
+// The latest move: the master's distance and travel, the speed in fiftieths of a unit, the phase, and the ticks in
+// which its ramp ran: `rounds` times 2 to the 32, and `ticks`. In two halves a controller has 256 bytes; one of more
+// costs a call from firmware 10 ns. `master` is the master, and 256 more once a distance line was accepted since the
+// move began (paper 02, 6/14): a flag of its own cost a tick of firmware 3 ns.
 #[repr(C)]
 pub struct Run {
     pub length: u32,
     pub gone: u32,
     pub speed: u32,
     pub phase: u32,
-    pub master: u8,
-    pub replanned: bool,
+    pub master: u16,
     pub moving: bool,
     pub stopping: bool,
     pub ticks: u32,

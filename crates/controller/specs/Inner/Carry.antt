@@ -1,6 +1,6 @@
 -- A stopped move carried on: src/carry.rt on held values.
-use Prim.Native.Nat.{ℕ, _-_, _≤_, _<_}
-use mathlib.Core.Bool.{Bool, true, false, cond, not, _&&_}
+use Prim.Native.Nat.{ℕ, _+_, _-_, _≤_, _<_}
+use mathlib.Core.Bool.{Bool, true, false, cond, _&&_}
 use lib.Dec.{ltb}
 use lib.ListN.{getD}
 use Rattle.laws.specs.Axes.{each}
@@ -13,9 +13,13 @@ use Rattle.controller.specs.declared.state.Counters.{Counters}
 use Rattle.controller.specs.Inner.Parts.{mark, runOf, pauseOf, hotOf, travelAt, blockedIn}
 use Rattle.controller.specs.Inner.Start.{StartFits, someLeaveOf}
 
+-- The master as it is held once a distance line was accepted.
+abbrev pub replannedOf : ℕ → ℕ
+replannedOf master = cond (ltb master 256) (master + 256) master
+
 -- The latest move is short of its end, with no distance line since.
 abbrev pub canCarryOnOf : Run → Bool
-canCarryOnOf r = ltb (r .gone) (r .length) && not (r .replanned)
+canCarryOnOf r = ltb (r .gone) (r .length) && ltb (r .master) 256
 
 -- What an axis's travel leaves of its distance.
 abbrev pub openAtOf : Plan → Counters → ℕ → ℕ
@@ -52,5 +56,5 @@ pub record CarryFits (h : Hot) : Type 0 where
 abbrev pub carriedOf : Hot → Hot
 carriedOf h =
     hotOf (h .plan) (h .counters)
-    (runOf (h .run .length) (h .run .gone) 0 0 (h .run .master) (h .run .replanned) true false 0 0) (h .wires)
+    (runOf (h .run .length) (h .run .gone) 0 0 (h .run .master) true false 0 0) (h .wires)
     (pauseOf 0 0 (h .pause .block)) (h .inputs) (h .watch) (mark (mark (h .flags) 3 false) 6 false)

@@ -43,16 +43,15 @@ mark f number b = record {
   sensed = cond (eqb number 6) b (f .sensed);
 }
 
--- A run by its length, what is gone of it, speed, phase and master, whether a distance line was accepted since, whether
--- it moves and is being stopped, and its ticks in two halves.
-abbrev pub runOf : ℕ → ℕ → ℕ → ℕ → ℕ → Bool → Bool → Bool → ℕ → ℕ → Run
-runOf length gone speed phase master replanned moving stopping ticks rounds = record {
+-- A run by its length, what is gone of it, speed, phase and master, whether it moves and is being stopped, and its
+-- ticks in two halves.
+abbrev pub runOf : ℕ → ℕ → ℕ → ℕ → ℕ → Bool → Bool → ℕ → ℕ → Run
+runOf length gone speed phase master moving stopping ticks rounds = record {
   length = length;
   gone = gone;
   speed = speed;
   phase = phase;
   master = master;
-  replanned = replanned;
   moving = moving;
   stopping = stopping;
   ticks = ticks;
@@ -101,15 +100,15 @@ withRun h x =
 abbrev pub withStopping : Hot → Bool → Hot
 withStopping h x =
     withRun h
-    (runOf (h .run .length) (h .run .gone) (h .run .speed) (h .run .phase) (h .run .master) (h .run .replanned)
-    (h .run .moving) x (h .run .ticks) (h .run .rounds))
+    (runOf (h .run .length) (h .run .gone) (h .run .speed) (h .run .phase) (h .run .master) (h .run .moving) x
+    (h .run .ticks) (h .run .rounds))
 
--- Whether a distance line was accepted since it began.
-abbrev pub withReplanned : Hot → Bool → Hot
-withReplanned h x =
+-- Its master, with what is held beside it.
+abbrev pub withMaster : Hot → ℕ → Hot
+withMaster h x =
     withRun h
-    (runOf (h .run .length) (h .run .gone) (h .run .speed) (h .run .phase) (h .run .master) x (h .run .moving)
-    (h .run .stopping) (h .run .ticks) (h .run .rounds))
+    (runOf (h .run .length) (h .run .gone) (h .run .speed) (h .run .phase) x (h .run .moving) (h .run .stopping)
+    (h .run .ticks) (h .run .rounds))
 
 -- What the general outputs and each axis add to an output word.
 abbrev pub withWires : Hot → ℕ → Cells → Hot

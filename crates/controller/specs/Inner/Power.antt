@@ -30,7 +30,7 @@ freshSettingsOf = record { speed = 10000; slope = 16; dwell = 0; polarity = 0; l
 
 -- No move runs.
 abbrev pub freshRunOf : Run
-freshRunOf = runOf 0 0 0 0 0 false false false 0 0
+freshRunOf = runOf 0 0 0 0 0 false false 0 0
 
 -- By the run, and what the general outputs and each axis add to an output word.
 abbrev pub freshHotGiven : Plan → Run → ℕ → Cells → Hot

@@ -40,14 +40,12 @@ standsOf r slope = r .stopping && leb (r .speed) slope
 
 -- The move has ended: speed and phase 0.
 abbrev pub atRestOf : Run → ℕ → ℕ → Run
-atRestOf r ticks gone =
-    runOf (r .length) gone 0 0 (r .master) (r .replanned) false false (ticksLeft ticks) (roundsOf ticks)
+atRestOf r ticks gone = runOf (r .length) gone 0 0 (r .master) false false (ticksLeft ticks) (roundsOf ticks)
 
 -- The move goes on.
 abbrev pub underWayOf : Run → ℕ → ℕ → ℕ → ℕ → Run
 underWayOf r ticks gone speed phase =
-    runOf (r .length) gone speed phase (r .master) (r .replanned) (r .moving) (r .stopping) (ticksLeft ticks)
-    (roundsOf ticks)
+    runOf (r .length) gone speed phase (r .master) (r .moving) (r .stopping) (ticksLeft ticks) (roundsOf ticks)
 
 -- By whether the phase is short of full, and whether the next pulse is the last.
 abbrev pub advanceGiven : Run → ℕ → ℕ → Bool → Bool → Paced

@@ -1,16 +1,17 @@
 -- What lines set: src/settings.rt on held values.
 use Prim.Native.Nat.{ℕ}
-use mathlib.Core.Bool.{Bool, true, cond}
+use mathlib.Core.Bool.{Bool, cond}
 use lib.Dec.{eqb}
 use lib.ListN.{set}
 use Rattle.outputs.specs.Outputs.{generalOf}
 use Rattle.controller.specs.declared.state.Controller.{Controller}
-use Rattle.controller.specs.Inner.Parts.{withReplanned, withWires, withHot, withSetting, withNext, cellsOf}
+use Rattle.controller.specs.Inner.Parts.{withMaster, withWires, withHot, withSetting, withNext, cellsOf}
+use Rattle.controller.specs.Inner.Carry.{replannedOf}
 
 -- The next move's distance and direction of an axis; the latest one is then not carried on.
 abbrev pub setAxisOf : Controller → ℕ → Bool → ℕ → Controller
 setAxisOf c k s d =
-    withNext (withHot c (withReplanned (c .hot) true))
+    withNext (withHot c (withMaster (c .hot) (replannedOf (c .hot .run .master))))
     (record { distances = set (c .cold .next .distances) k d; minus = set (c .cold .next .minus) k s })
 
 -- What each axis adds to an output word under the polarity set.

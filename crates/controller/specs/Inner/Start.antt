@@ -58,7 +58,7 @@ begunGiven next h master cells =
       remainders = each (λ k. 0);
       positions = h .counters .positions;
     })
-    (runOf (getD (next .distances) master 0) 0 0 0 master false true false 0 0)
+    (runOf (getD (next .distances) master 0) 0 0 0 master true false 0 0)
     (record { general = h .wires .general; cells = cells }) (pauseOf 0 0 (h .pause .block)) (h .inputs) (h .watch)
     (mark (mark (h .flags) 3 false) 6 false)
 
