@@ -5,11 +5,10 @@ use mathlib.Core.Bool.{Bool, true, false, cond, _&&_, _||_, or-true, or-false}
 use mathlib.Core.Path.{_≡_, refl, sym, ap, _∙_}
 use native.Mathlib.Omega.{arith}
 use native.Mathlib.Nat.{mod-eq-of-lt}
-use borrow.Author.Tests.{ltb-true, ltb-false, lt-ltb, le-ltb, le-leb, lt-leb, ne-eqb}
+use borrow.Author.Tests.{ltb-true, ltb-false, le-leb, lt-leb, ne-eqb}
 use lib.Dec.{ltb, eqb}
 use lib.IntN.{ℤ, pos, negsuc, _+ℤ_}
 use lib.ListN.{set}
-use Rattle.laws.specs.Bits.{weight}
 use Rattle.laws.specs.Axes.{each}
 use Rattle.laws.proofs.Five.{five}
 use Rattle.laws.proofs.Pick.{by-lt, by-eq}
@@ -36,7 +35,7 @@ use Rattle.controller.specs.declared.state.Controller.{Controller}
 use Rattle.controller.specs.Held.{held, heldHot, heldPlan, heldSettings, isGiven, characterOf}
 use Rattle.controller.specs.Inner.Parts.{withMaster, withFlag, withHot, withNext, blockedIn}
 use Rattle.controller.specs.Inner.Start.{begunOf, startNumberOf}
-use Rattle.controller.specs.Inner.Carry.{replannedOf, carryNumberOf}
+use Rattle.controller.specs.Inner.Carry.{carryNumberOf}
 use Rattle.controller.specs.Inner.Settings.{setSettingOf}
 use Rattle.controller.specs.Inner.Orders.{
   obeyStartOf,
@@ -52,7 +51,7 @@ use Rattle.controller.specs.Inner.Numbers.{numberOf, turnedOf, turnedGiv
 use Rattle.controller.specs.Inner.Status.{statusGiven, statusOf, readingsOf}
 use Rattle.controller.proofs.TickLaws.{each-at}
 use Rattle.controller.proofs.StartLaws.{start-is, begun-is}
-use Rattle.controller.proofs.CarryLaws.{carry-is, carried-is}
+use Rattle.controller.proofs.CarryLaws.{replanned-is, carry-is, carried-is}
 
 -- ---- Effects
 
@@ -87,16 +86,12 @@ stop-is m = when (m .move .moving)
         (sym (or-false (m .flags .sensed)) i))
     when false = refl
 
--- The flag beside the master, once a distance line is accepted.
-replanned-is : (b : Bool) (k : ℕ) → k < 5 → replannedOf (k + weight b 256) ≡ k + 256
-replanned-is true k h = rw (le-ltb (k + 256) 256 (omega arith))
-replanned-is false k h = rw (lt-ltb (k + 0) 256 (omega arith)) (omega arith)
-
 pub does-is : (m : Machine) (c : Command) → Fits m → CommandFits c → doesOf (held m) c ≡ held (does m c)
 does-is m (C.Distance k s d) f h =
     let l = distance k s d h .0 in
     λ i. withNext
-    (withHot (held m) (withMaster (heldHot m) (replanned-is (m .move .replanned) (m .move .master) (f .move .master) i)))
+    (withHot (held m) (withMaster (heldHot m) (replanned-is (m .move .replanned) (m .move .master) (f .move .master)
+    i)))
     (record {
       distances = set-is (m .next .distance) d k l i;
       minus = set-is (m .next .minus) s k l i;

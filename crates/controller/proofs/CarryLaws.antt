@@ -16,8 +16,13 @@ use Rattle.machine.specs.Starts.{outside, final, canCarryOn, openPlan, carryNum
 use Rattle.machine.proofs.FitLaws.{Fits}
 use Rattle.controller.specs.Held.{heldSettings, heldHot}
 use Rattle.controller.specs.Inner.Parts.{travelAt}
-use Rattle.controller.specs.Inner.Carry.{carryNumberOf, CarryFits, carriedOf}
+use Rattle.controller.specs.Inner.Carry.{replannedOf, carryNumberOf, CarryFits, carriedOf}
 use Rattle.controller.proofs.StartLaws.{leave-is, plan-fits}
+
+-- The flag beside the master, once a distance line is accepted.
+pub replanned-is : (b : Bool) (k : ℕ) → k < 5 → replannedOf (k + weight b 256) ≡ k + 256
+replanned-is true k h = rw (le-ltb (k + 256) 256 (omega arith))
+replanned-is false k h = rw (lt-ltb (k + 0) 256 (omega arith)) (omega arith)
 
 module _ (m : Machine) (f : Fits m) where
   pub carry-fits : CarryFits (heldHot m)
@@ -42,7 +47,8 @@ module _ (m : Machine) (f : Fits m) where
 
   pub carry-is : carryNumberOf (heldSettings (m .settings)) (heldHot m) ≡ carryNumber m
   carry-is =
-      (λ i. cond (can-is (ltb (gone (m .move)) (whole (m .move))) (m .move .replanned) (m .move .master) (f .move .master) i)
+      (λ i. cond (can-is (ltb (gone (m .move)) (whole (m .move))) (m .move .replanned) (m .move .master)
+      (f .move .master) i)
       (cond (m .flags .emergency) 12
       (cond (sensorActive m) 13
       (cond (blocked m (openPlan m)) 16

@@ -1,6 +1,7 @@
 -- How the controller holds the values of the machine: the one definition that says so. Positions are held with 524,288
--- added, the move's ticks in two halves, whether it was replanned with its master; beside each travel stands the remainder of m × d / M; M, m and the parts of
--- the output words are kept ready, and of the general outputs only their part of a word.
+-- added, the move's ticks in two halves, and with its master whether a distance line was accepted since it began;
+-- beside each travel stands the remainder of m × d / M; M, m and the parts of the output words are kept ready, and of
+-- the general outputs only their part of a word.
 use Prim.Native.Nat.{ℕ, _+_, _*_, _/_, _%_}
 use mathlib.Core.Bool.{Bool, true, false}
 use mathlib.Core.List.{List, []}
