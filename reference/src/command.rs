@@ -47,7 +47,8 @@ pub enum Command {
     Outputs(u32),
 }
 
-/// Host end: a command value, which is a command with its reply wish and its identification (0 to 15).
+/// Host end: a command value, which is a command with its reply wish and its identification. That is the very character
+/// (paper 02, 7/14), so that `a` and `A` are two; one that is no digit may be given, and has no line.
 #[derive(Clone, Copy, Debug, PartialEq, Eq)]
 pub struct CommandValue {
     pub command: Command,

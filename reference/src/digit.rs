@@ -1,17 +1,54 @@
-//! Digits: those of lines, blocks, lists and vectors are all hexadecimal, the first being the highest.
+//! Digits: those of lines, blocks, lists and vectors are all hexadecimal, the first being the highest. A digit that is
+//! read tells both value and case (paper 02, 7/14), and whoever uses it follows.
 
-/// Replies: the value of a digit; letters in capitals only.
-pub fn capital_digit_value(character: u8) -> Option<u8> {
-    match character {
-        b'0'..=b'9' => Some(character - b'0'),
-        b'A'..=b'F' => Some(character - b'A' + 10),
-        _ => None,
+/// Paper 02, 7/14: a digit that was read, its value and whether it is a small letter. Only `read` makes one, and 0-9
+/// have no case there: 22 characters, 22 digits, and no second digit stands for a character.
+#[derive(Clone, Copy, Debug, PartialEq, Eq)]
+pub struct Digit {
+    value: u8,
+    small: bool,
+}
+
+impl Digit {
+    /// Lines: 0-9, A-F and a-f are digits, no other character is.
+    pub fn read(character: u8) -> Option<Digit> {
+        match character {
+            b'0'..=b'9' => Some(Digit { value: character - b'0', small: false }),
+            b'A'..=b'F' => Some(Digit { value: character - b'A' + 10, small: false }),
+            b'a'..=b'f' => Some(Digit { value: character - b'a' + 10, small: true }),
+            _ => None,
+        }
+    }
+
+    /// Lines: the value, 0 to 15.
+    pub fn value(self) -> u8 {
+        self.value
+    }
+
+    /// Paper 02, 7/14: the case; 0-9 are no small letters.
+    pub fn is_small(self) -> bool {
+        self.small
+    }
+
+    /// Paper 02, 7/14: the very character that was read.
+    pub fn character(self) -> u8 {
+        let capital = digit_character(self.value);
+        if self.small {
+            capital.to_ascii_lowercase()
+        } else {
+            capital
+        }
     }
 }
 
-/// Lines: the value of a digit of either case.
+/// Replies: the value of a digit; letters in capitals only.
+pub fn capital_digit_value(character: u8) -> Option<u8> {
+    Digit::read(character).filter(|digit| !digit.is_small()).map(Digit::value)
+}
+
+/// Lines: the value of a digit; data digits ignore the case (paper 02, 7/14).
 pub fn digit_value(character: u8) -> Option<u8> {
-    capital_digit_value(character.to_ascii_uppercase())
+    Digit::read(character).map(Digit::value)
 }
 
 /// Lines: the number that digits make, 16 of them at most.

@@ -4,7 +4,7 @@ mod reader;
 mod writer;
 
 pub use reader::{read_block, Block, Reading};
-pub use writer::{identification_value, line_text, write_line, LEAST_LINE_BUFFER};
+pub use writer::{line_text, write_line, LEAST_LINE_BUFFER};
 
 /// Host end: master picker, the longest; of equals the lowest axis; 0 if all are 0.
 pub fn pick_master(distances: [u32; 5]) -> u8 {

@@ -1,6 +1,7 @@
 //! Reference of the five-pump blending controller, written from paper 01 and, where that is silent, the manual; the
 //! journal from paper 02, 1/14, the watch of power-on from 2/14, the settled inputs of W lines from 3/14, the trial
-//! from 5/14, and carrying on from 6/14; the programs desk and preview from the page on the line protocol.
+//! from 5/14, carrying on from 6/14, and small identification letters from 7/14; the programs desk and preview from the
+//! page on the line protocol.
 //!
 //! Each rule is a small function; its comment names the section of paper 01 that holds the rule, the journal, the
 //! request of paper 02, or "From words" or "A dose on screen first" of that page.
@@ -37,6 +38,7 @@ pub mod trial;
 pub mod vectors;
 
 pub use command::{Command, CommandValue};
+pub use digit::Digit;
 pub use figures::{figures_of, Figures, Setting};
 pub use host::{pick_master, read_block, watch_off_line, write_line, Block, Reading};
 pub use journal::Entry;

@@ -4,7 +4,7 @@ mod code;
 mod value;
 
 use crate::command::Command;
-use crate::digit::{capital_digit_value, digit_value};
+use crate::digit::{digit_value, Digit};
 use code::{check_code, check_count, check_w_count};
 use value::{read_capital_q, read_p, read_small_q, read_w};
 
@@ -14,12 +14,12 @@ pub const LINE_END: u8 = 0x0D;
 /// Turned away, 4: the most characters of a line.
 pub const MOST_CHARACTERS: usize = 9;
 
-/// Lines: an accepted line with its command, its six digits (absent digits 0) and its identification character.
+/// Lines: an accepted line with its command, its six digits (absent digits 0) and its identification.
 #[derive(Clone, Copy, Debug, PartialEq, Eq)]
 pub struct ReadLine {
     pub command: Command,
     pub digits: [u8; 6],
-    pub identification: Option<u8>,
+    pub identification: Option<Digit>,
 }
 
 /// Lines: the bytes of a line, its characters and then 0D.
@@ -27,19 +27,14 @@ pub fn with_line_end(text: &[u8]) -> impl Iterator<Item = u8> + '_ {
     text.iter().copied().chain([LINE_END])
 }
 
-/// Lines: an identification is 0-9 or A-F, capitals only.
-pub fn is_identification(character: u8) -> bool {
-    capital_digit_value(character).is_some()
-}
-
 /// Lines: a line whose second character is 4 never answers.
 pub fn is_silent(line: &[u8]) -> bool {
     line.get(1) == Some(&b'4')
 }
 
-/// Lines: the identification is the character after the six digits.
-pub fn identification(line: &[u8]) -> Option<u8> {
-    line.get(8).copied()
+/// Lines: the identification is the character after the six digits: 0-9, A-F or, by paper 02, 7/14, a-f.
+pub fn identification(line: &[u8]) -> Option<Digit> {
+    line.get(8).copied().and_then(Digit::read)
 }
 
 /// Turned away, 4: under 2 or over 9 characters.
@@ -66,16 +61,14 @@ fn check_second(line: &[u8]) -> Result<(), u8> {
     }
 }
 
-/// Turned away, 7: a later character is no digit, or the ninth no identification.
+/// Turned away, 7: a later character is no digit, or the ninth no identification. Paper 02, 7/14 widens the latter to
+/// either case, so that both take the same characters; the ninth is not counted among the digits.
 fn check_digits(line: &[u8]) -> Result<Vec<u8>, u8> {
     let mut digits = Vec::new();
-    for (place, &character) in line.iter().enumerate().skip(2) {
-        if place < 8 {
-            digits.push(digit_value(character).ok_or(7)?);
-        } else if !is_identification(character) {
-            return Err(7);
-        }
+    for &character in &line[2..] {
+        digits.push(digit_value(character).ok_or(7)?);
     }
+    digits.truncate(6);
     Ok(digits)
 }
 

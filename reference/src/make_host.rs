@@ -2,6 +2,7 @@
 
 mod carry_on;
 mod figures;
+mod identification;
 mod other_forms;
 mod picker;
 mod reader;
@@ -18,12 +19,14 @@ pub fn host_text() -> String {
     writer::identifications(&mut text);
     writer::line_buffers(&mut text);
     writer::carry_ons(&mut text);
+    identification::lines(&mut text);
     reader::answers(&mut text);
     reader::capital_s(&mut text);
     carry_on::blocks(&mut text);
     reader::positions_and_inputs(&mut text);
     reader::characters_of_blocks(&mut text);
     reader::lengths_of_blocks(&mut text);
+    identification::blocks(&mut text);
     picker::pickers(&mut text);
     figures::exact_figures(&mut text);
     figures::inexact_figures(&mut text);

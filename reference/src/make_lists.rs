@@ -7,6 +7,7 @@ mod emergency;
 mod entries;
 mod extremes;
 mod failing_starts;
+mod identification;
 mod largest_sums;
 mod limits;
 mod line_forms;
@@ -58,6 +59,7 @@ pub fn lists_text() -> String {
     settle::settle(&mut text);
     largest_sums::largest_sums(&mut text);
     carry_on::carry_on(&mut text);
+    identification::identification(&mut text);
     drawn::drawn_lists(&mut text);
     other_forms::other_forms(&mut text);
     text.ended()

@@ -7,6 +7,7 @@ mod drawn;
 mod dwells;
 mod forms;
 mod held_inputs;
+mod identification;
 mod order;
 mod page;
 mod session;
@@ -41,6 +42,7 @@ pub fn preview_text() -> Vec<u8> {
     watch::not_zeroed_by_the_trial(&mut session);
     watch::acting_in_the_trial(&mut session);
     settle::settle(&mut session);
+    identification::identification(&mut session);
     forms::good_forms(&mut session);
     forms::other_forms(&mut session);
     forms::other_lines(&mut session);

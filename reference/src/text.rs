@@ -1,4 +1,10 @@
-//! Stored lists and vectors: the text of a stored input under way.
+//! Stored lists and vectors: the text of a stored input under way, and the characters that every stored input tries.
+
+/// Paper 02, 7/14: the identifications.
+pub(crate) const IDENTIFICATIONS: &str = "0123456789ABCDEFabcdef";
+
+/// Turned away, 7, 19 and 20: the characters next to 0-9, A-F and a-f, which are no identification.
+pub(crate) const NEXT_TO_THEM: &str = "/:@G`g";
 
 /// Stored lists and vectors: the lines written so far.
 pub(crate) struct Text(String);

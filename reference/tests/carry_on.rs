@@ -24,7 +24,7 @@ fn one_to_six_digits_are_echoed_in_capitals() {
         assert_eq!(machine.status(), 3, "{line}");
     }
     let mut machine = stopped_at_once();
-    replies(&mut machine, &[("Q0C000000A", "U0000004"), ("Q0CG", "U0000007"), ("Q0C00000a", "U0000007")]);
+    replies(&mut machine, &[("Q0C000000A", "U0000004"), ("Q0CG", "U0000007"), ("Q0C00000g", "U0000007")]);
     replies(&mut machine, &[("q0C", "U0000008"), ("Q1C", "U0000006"), ("Q06", "S0600008"), ("Q0C", "S0C00000")]);
 }
 

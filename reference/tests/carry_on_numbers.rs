@@ -77,7 +77,7 @@ fn what_leaves_a_stopped_move() {
         accept(&mut machine, &[line, "Q0C"]);
     }
     let refused =
-        ["", "P", "P0000005AA", "X0000005", "P1000005", "P000000G", "P0000005a", "P0500005", "P00", "P000005"];
+        ["", "P", "P0000005AA", "X0000005", "P1000005", "P000000G", "P0000005g", "P0500005", "P00", "P000005"];
     for line in refused.into_iter().chain(["P4000", "P0900000", "P08F4241", "Q081", "Q482", "Q085", "Q08", "Q089"]) {
         let mut machine = stopped_at_once();
         assert_ne!(number(&mut machine, line), 0, "{line}");

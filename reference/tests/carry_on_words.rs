@@ -26,7 +26,8 @@ fn told(pairs: &[(&str, &str)]) {
 fn lines_of_the_words() {
     told(&[("carry on", "Q0C00000"), ("silent carry on", "Q4C00000"), ("carry on as A", "Q0C00000A")]);
     told(&[("silent carry on as 0", "Q4C000000"), ("carry on as F", "Q0C00000F")]);
-    told(&[("carry on as a", NO_LINE), ("carry on as G", NO_LINE), ("silent carry on as z", NO_LINE)]);
+    told(&[("carry on as a", "Q0C00000a"), ("silent carry on as f", "Q4C00000f")]);
+    told(&[("carry on as g", NO_LINE), ("carry on as G", NO_LINE), ("silent carry on as z", NO_LINE)]);
 }
 
 #[test]

@@ -88,7 +88,8 @@ fn a_dose_from_words_to_words() {
     assert_eq!(told(words), expected);
 }
 
-/// Each line of the stored recipe has its line in words, and the wrong master is the only thing turned away.
+/// Each line of the stored recipe has its line in words; a carry-on behind the whole dose and the wrong master are all
+/// that is turned away.
 #[test]
 fn the_stored_recipe() {
     let words = std::fs::read(concat!(env!("CARGO_MANIFEST_DIR"), "/../docs/recipe.txt")).unwrap();
@@ -96,5 +97,6 @@ fn the_stored_recipe() {
     assert_eq!(told.lines().count(), words.iter().filter(|&&byte| byte == b'\n').count());
     let away: Vec<&str> =
         told.lines().filter(|line| line.starts_with('?') || line.starts_with("turned away")).collect();
-    assert_eq!(away, ["turned away by 14: an axis is longer than the master"]);
+    let (nothing_left, wrong_master) = ("there is nothing to carry on", "an axis is longer than the master");
+    assert_eq!(away, [format!("turned away by 26: {nothing_left}"), format!("turned away by 14: {wrong_master}")]);
 }

@@ -30,10 +30,12 @@ fn every_answer() {
         };
         assert_eq!(answer(line.as_bytes()), expected);
         if matches!(number, 0 | 8..=17 | 26) {
-            let marked = format!("{} (as C)\n", expected.trim_end());
-            assert_eq!(answer(format!("{line}C").as_bytes()), marked);
+            for id in ["C", "c"] {
+                let marked = format!("{} (as {id})\n", expected.trim_end());
+                assert_eq!(answer(format!("{line}{id}").as_bytes()), marked);
+            }
         } else {
-            no_blocks(&[&format!("{line}C")]);
+            no_blocks(&[&format!("{line}C"), &format!("{line}c")]);
         }
     }
 }
@@ -89,7 +91,7 @@ fn every_switch_digit() {
 
 #[test]
 fn lines_that_begin_as_a_block_and_are_none() {
-    no_blocks(&["U0", "U000000", "U00000000A", "U0000000a", "U0000000 ", "U0000000 as A", "U000000e", "U0000001"]);
+    no_blocks(&["U0", "U000000", "U00000000A", "U0000000g", "U0000000 ", "U0000000 as A", "U000000e", "U0000001"]);
     no_blocks(&[
         "S0500000", "S0700000", "S0c00000", "S0F00000", "S0850000", "S08D0000", "S0D00400", "S0E04000", "S0b00000",
     ]);

@@ -119,15 +119,17 @@ fn silent_and_identified() {
         ("silent outputs AB", "W40000AB"),
     ]);
     told(&[("speed 1 as 9", "P08000049"), ("distance 2 -5000 as B", "P0281388B"), ("everything as 7", "q08000007")]);
+    told(&[("stop as a", "Q0900000a"), ("outputs abcdef as f", "W0ABCDEFf"), ("silent reset as c", "Q4B00000c")]);
 }
 
 #[test]
 fn identifications_without_a_line() {
-    all_told(&["stop as a", "stop as G", "stop as z", "stop as /", "stop as :", "stop as @", "stop as  "], NO_LINE);
-    all_told(&["inputs as A", "silent inputs as 0", "inputs as z", "dwell 16384 as A"], NO_LINE);
+    all_told(&["stop as `", "stop as g", "stop as G", "stop as z", "stop as /", "stop as :", "stop as @"], NO_LINE);
+    all_told(&["stop as  ", "inputs as A", "inputs as a", "silent inputs as 0", "inputs as z"], NO_LINE);
+    all_told(&["dwell 16384 as A", "dwell 16384 as a"], NO_LINE);
     for character in (0..=255u8).filter(|&character| character != b'\n') {
         let printed = answer(&[b"stop as ", &[character][..]].concat());
-        let good = matches!(character, b'0'..=b'9' | b'A'..=b'F');
+        let good = matches!(character, b'0'..=b'9' | b'A'..=b'F' | b'a'..=b'f');
         let expected = if good { format!("Q0900000{}\n", character as char) } else { format!("{NO_LINE}\n") };
         assert_eq!(printed, expected);
     }

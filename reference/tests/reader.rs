@@ -2,7 +2,7 @@
 
 mod common;
 use common::{accept, line, until_rest};
-use reference::{read_block, Block, Machine, Reading};
+use reference::{read_block, Block, Digit, Machine, Reading};
 
 fn reading(bytes: &[u8]) -> Result<Reading, u8> {
     read_block(bytes).map(|block| block.reading)
@@ -75,7 +75,7 @@ fn positions() {
 #[test]
 fn inputs_and_other_forms() {
     assert_eq!(reading(b"R0ABCDEF\r"), Ok(Reading::Inputs { word: 0xABCDEF }));
-    no_blocks(&["R0ABCDEf\r", "R0ABCDEFa\r", "R0ABCDEF", "R0ABCDEF\n", "R0ABCDEF1", "R0ABCDEF1\rR", "R0ABCDE\r"]);
+    no_blocks(&["R0ABCDEf\r", "R0ABCDEFg\r", "R0ABCDEF", "R0ABCDEF\n", "R0ABCDEF1", "R0ABCDEF1\rR", "R0ABCDE\r"]);
     no_blocks(&["r0ABCDEF\r", "P0ABCDEF\r"]);
 }
 
@@ -89,7 +89,7 @@ fn everything_is_read_back() {
     let (reply, _) = line(&mut machine, b"q0800000A");
     let blocks: Vec<Block> = reply.lines().map(|text| read_block(format!("{text}\r").as_bytes()).unwrap()).collect();
     assert_eq!(blocks.len(), 12);
-    assert!(blocks.iter().all(|block| block.switch == 7 && block.identification == Some(10)));
+    assert!(blocks.iter().all(|block| block.switch == 7 && block.identification == Digit::read(b'A')));
     for axis in 0..5 {
         let k = axis as usize;
         let travel = Reading::Travel { axis, minus: axis == 0, travel: machine.travels()[k] };

@@ -40,7 +40,7 @@ fn number_6() {
 #[test]
 fn number_7() {
     let mut machine = on();
-    let texts = ["Q0G", "Q06 ", "W0zzzzzz", "P0F00000a", "P0000001G", "P00000G1A", "q0\n"];
+    let texts = ["Q0G", "Q06 ", "W0zzzzzz", "P0F00000g", "P0000001G", "P00000G1A", "q0\n"];
     refused_each(&mut machine, &texts, 7, "U0000007");
     assert_eq!(refused(&mut machine, &[b'q', b'0', 0xFF], 7), "U0000007");
     refused_each(&mut machine, &["q4G"], 7, "");

@@ -43,7 +43,9 @@ fn number_19() {
     for command in without_line {
         assert_eq!(write_line(&value(command), &mut buf), Err(19), "{command:?}");
     }
-    for (command, identification) in [(Command::ReadStatus, 16), (Command::ReadInputs, 0)] {
+    for (command, identification) in
+        [(Command::ReadStatus, b'g'), (Command::ReadStatus, 10), (Command::ReadInputs, b'0')]
+    {
         let identified = CommandValue { identification: Some(identification), ..value(command) };
         assert_eq!(write_line(&identified, &mut buf), Err(19));
     }

@@ -38,7 +38,7 @@ fn every_switch_has_its_digit() {
 #[test]
 fn every_identification_comes_back() {
     let mut machine = on();
-    for id in "0123456789ABCDEF".chars() {
+    for id in "0123456789ABCDEFabcdef".chars() {
         accept(&mut machine, &[&format!("W0fedcba{id}")]);
         no_block(&mut machine, 2_499, 1);
         assert_eq!(block(&mut machine, 0xA0B0C0), format!("R0A0B0C0{id}\n"));
@@ -98,7 +98,7 @@ fn a_refused_w_changes_nothing() {
     ticks(&mut machine, 2_000, 0);
     refused_each(&mut machine, &["W", "W0ABCDEF12"], 4, "U0000004");
     refused_each(&mut machine, &["W1", "WW"], 6, "U0000006");
-    refused_each(&mut machine, &["W0G", "W0123456a"], 7, "U0000007");
+    refused_each(&mut machine, &["W0G", "W0123456g"], 7, "U0000007");
     refused_each(&mut machine, &["W01", "W012345"], 9, "U0000009");
     refused_each(&mut machine, &["W41", "W412345"], 9, "");
     // Each of these ten lines had one tick before it.

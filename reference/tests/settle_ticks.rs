@@ -3,7 +3,7 @@
 mod common;
 use common::blocks::{block, block_in, no_block};
 use common::{accept, in_dwell, on, one_tick, ticks, under_way};
-use reference::{front, read_block, Block, Entry, Machine, Reading};
+use reference::{front, read_block, Block, Digit, Entry, Machine, Reading};
 
 #[test]
 fn ticks_turned_away_by_2_or_3_do_not_count() {
@@ -140,5 +140,6 @@ fn the_reader_reads_it_back() {
     let mut buf = [0; 120];
     let answer = machine.tick(0x9ABCDE, &mut buf);
     let reading = Reading::Inputs { word: 0x9ABCDE };
-    assert_eq!(read_block(front(&buf, answer.len)), Ok(Block { switch: 0xE, reading, identification: Some(0xC) }));
+    let identification = Digit::read(b'C');
+    assert_eq!(read_block(front(&buf, answer.len)), Ok(Block { switch: 0xE, reading, identification }));
 }

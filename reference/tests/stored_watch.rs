@@ -155,7 +155,7 @@ fn full_and_decided(list: &List) -> (bool, bool) {
 }
 
 /// Headings of the lists that fill the count though the power-on watch decides nothing: they set the watch themselves.
-const SET_BY_LINES: [&str; 9] = [
+const SET_BY_LINES: [&str; 10] = [
     "Watch 3",
     "Watch 1",
     "P0B0 first: the",
@@ -165,6 +165,7 @@ const SET_BY_LINES: [&str; 9] = [
     "Settled inputs: the watch clears",
     "Carry-ons: stopped by the watch",
     "Carry-ons: a stored start that a full watch",
+    "Identification: a small one postpones",
 ];
 
 /// Headings of the lists that the power-on watch decides.

@@ -1,7 +1,7 @@
 //! Host end: writer and master picker.
 
 use reference::line::read_line;
-use reference::{pick_master, write_line, Command, CommandValue};
+use reference::{pick_master, write_line, Command, CommandValue, Digit};
 
 /// Every command with its full line.
 const FULL_LINES: [(Command, &[u8]); 20] = [
@@ -59,7 +59,8 @@ fn silent_lines() {
 #[test]
 fn identified_lines() {
     for (command, text) in identifiable() {
-        assert_eq!(written(command, false, Some(15)), [&text[..8], b"F\r"].concat());
+        assert_eq!(written(command, false, Some(b'F')), [&text[..8], b"F\r"].concat());
+        assert_eq!(written(command, true, Some(b'f'))[8..], *b"f\r");
     }
 }
 
@@ -68,7 +69,7 @@ fn read_back(command: Command, silent: bool, identification: Option<u8>) {
     let line = written(command, silent, identification);
     let read = read_line(&line[..line.len() - 1]).unwrap();
     assert_eq!(read.command, command);
-    assert_eq!(read.identification.map(|c| (c as char).to_digit(16).unwrap() as u8), identification);
+    assert_eq!(read.identification.map(Digit::character), identification);
 }
 
 #[test]
@@ -78,15 +79,15 @@ fn lines_are_read_back() {
         read_back(command, true, None);
     }
     for (command, _) in identifiable() {
-        read_back(command, false, Some(0));
-        read_back(command, true, Some(10));
+        read_back(command, false, Some(b'0'));
+        read_back(command, true, Some(b'A'));
     }
 }
 
 #[test]
 fn a_line_buffer_of_ten_bytes_is_enough() {
     let mut buf = [0; 10];
-    let value = CommandValue { command: Command::Stop, silent: false, identification: Some(10) };
+    let value = CommandValue { command: Command::Stop, silent: false, identification: Some(b'A') };
     assert_eq!(write_line(&value, &mut buf), Ok(10));
     assert_eq!(&buf, b"Q0900000A\r");
 }

@@ -1,4 +1,5 @@
 pub mod Blocks
 pub mod Buffers
 pub mod Places
+pub mod Named
 mod Loop

@@ -2,6 +2,7 @@
 use Prim.Native.Nat.{ℕ, zero, suc, _+_}
 use mathlib.Core.Bool.{Bool, cond}
 use mathlib.Core.List.{List, [], _∷_, _++_}
+use mathlib.Core.Path.{_≡_}
 use lib.Dec.{leb}
 use lib.ListN.{length, getD, take, drop}
 use Rattle.digits.specs.Digits.{endByte, capitalOf, sixOf}
@@ -33,6 +34,13 @@ unfoldable pub rowOf : ℕ → List ℕ → List ℕ → ℕ → Ident → List 
 rowOf zero letters numbers switch ident = []
 rowOf (suc n) letters numbers switch ident =
     rowOf n letters numbers switch ident ++ blockOf (rowBlock letters numbers switch ident n)
+
+-- The bytes are blocks one behind the other, or none: each has this switch digit and this identification.
+pub record Blocks (switch : ℕ) (ident : Ident) (bytes : List ℕ) : Type 0 where
+  pub count : ℕ
+  pub letters : List ℕ
+  pub numbers : List ℕ
+  pub whole : bytes ≡ rowOf count letters numbers switch ident
 
 -- s over the front of d: the bytes after it keep their values.
 unfoldable pub over : List ℕ → List ℕ → List ℕ

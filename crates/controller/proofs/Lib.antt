@@ -23,4 +23,5 @@ pub mod JournalAnswerLaws
 pub mod CarryAnswerLaws
 pub mod SettleAnswerLaws
 pub mod FrontLaws
+pub mod IdentifiedAnswerLaws
 mod PositionLaws

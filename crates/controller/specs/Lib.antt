@@ -4,4 +4,5 @@ pub mod Answers
 pub mod Journal
 pub mod Carry
 pub mod Settle
+pub mod Identified
 pub mod Inner

@@ -6,6 +6,7 @@ ghost use mathlib.Core.Path.{_≡_};
 ghost use Rattle.block.specs.Block.{frontOf};
 ghost use Rattle.machine.specs.Carry.{CarryOn};
 ghost use Rattle.machine.specs.Demand.{Demand3};
+ghost use Rattle.machine.specs.Identified.{Returns};
 ghost use Rattle.machine.specs.Journal.{Journal};
 ghost use Rattle.machine.specs.Marked.{Marked};
 ghost use Rattle.machine.specs.Settle.{Settles};
@@ -13,12 +14,14 @@ ghost use Rattle.machine.specs.Watch.{Watch};
 ghost use Rattle.witness.specs.Blocks.{BlockWitness};
 ghost use Rattle.witness.specs.Carried.{CarryWitness};
 ghost use Rattle.witness.specs.Entries.{EntryWitness};
+ghost use Rattle.witness.specs.Identified.{ReturnWitness};
 ghost use Rattle.witness.specs.Witness.{Witness};
 ghost use Rattle.controller.specs.Held.{heldPower};
 ghost use Rattle.controller.specs.Reach.{Reachable};
 ghost use Rattle.controller.specs.Answers as answered;
 ghost use Rattle.controller.specs.Answers.{ReplyIn, BlockIn, Promised, Demand3Answers};
 ghost use Rattle.controller.specs.Carry.{CarryAnswers};
+ghost use Rattle.controller.specs.Identified.{ReturnsAnswers};
 ghost use Rattle.controller.specs.Journal.{JournalAnswers};
 ghost use Rattle.controller.specs.Settle.{SettlesAnswers};
 pub use crate::state::ByteAnswer;
@@ -55,7 +58,8 @@ mod words;
 // answers of these entries themselves stands beside it (`Demand3Answers`). So do the two about the journal's entries
 // (`Journal`, `JournalAnswers`), with computed ones (`EntryWitness`), the one about the watch that is on from here
 // (`Watch`), the two about the blocks of W lines (`Settles`, `SettlesAnswers`), with computed ones (`BlockWitness`),
-// and the two about carry-ons (`CarryOn`, `CarryAnswers`), with a computed one (`CarryWitness`).
+// the two about carry-ons (`CarryOn`, `CarryAnswers`), with a computed one (`CarryWitness`), and the two about the
+// identification that replies return (`Returns`, `ReturnsAnswers`), with computed replies (`ReturnWitness`).
 pub fn power_on(switch: u8) -> PowerOn
     ensures { λ r. ⌜ r ≡ heldPower switch ⌝ }
     ensures { λ r. ⌜ Reachable (r .controller) ⌝ }
@@ -73,6 +77,9 @@ pub fn power_on(switch: u8) -> PowerOn
     ensures { λ _. ⌜ CarryOn ⌝ }
     ensures { λ _. ⌜ CarryAnswers ⌝ }
     ensures { λ _. ⌜ CarryWitness ⌝ }
+    ensures { λ _. ⌜ Returns ⌝ }
+    ensures { λ _. ⌜ ReturnsAnswers ⌝ }
+    ensures { λ _. ⌜ ReturnWitness ⌝ }
 {
     if power::is_bad(switch) {
         let controller = power::fresh(0);

@@ -15,11 +15,12 @@ use Rattle.digits.specs.Digits.{digitOf, capitalOf, joinDigit, joinOf, U
 
 -- ---- values
 
--- What a digit tells of its character: a value below 16, and for a capital that the character is that value's.
+-- What a digit tells of its character: a value below 16, from 10 on for a small letter, and that the character is that
+-- value's in its case.
 abbrev pub Tells : ℕ → Digit → Type 0
 Tells c Other = 0 < 1
 Tells c (Capital v) = (v < 16) × (capitalOf v ≡ c)
-Tells c (Small v) = v < 16
+Tells c (Small v) = (v < 16) × ((10 ≤ v) × (87 + v ≡ c))
 
 pub digit-tells : (c : ℕ) → Tells c (digitOf c)
 digit-tells c =
@@ -28,7 +29,7 @@ digit-tells c =
     λ h2. by-lt (Tells c) c 65 _ _ (λ h. omega arith)
     λ h3. by-lt (Tells c) c 71 _ _ (λ h. (omega arith, letter h3 h))
     λ h4. by-lt (Tells c) c 97 _ _ (λ h. omega arith)
-    λ h5. by-lt (Tells c) c 103 _ _ (λ h. omega arith)
+    λ h5. by-lt (Tells c) c 103 _ _ (λ h. (omega arith, (omega arith, omega arith)))
     λ h6. omega arith
   where
     number : 48 ≤ c → c < 58 → capitalOf (c - 48) ≡ c
@@ -67,7 +68,7 @@ digit-capital v h =
 under-digit : (b n : ℕ) (small : Bool) (c : ℕ) (d : Digit) → Tells c d → n < b → Under (b * 16) (joinDigit n small d)
 under-digit b n small c Other t h = omega arith
 under-digit b n small c (Capital v) t h = let k = t .0 in omega arith
-under-digit b n small c (Small v) t h = omega arith
+under-digit b n small c (Small v) t h = let k = t .0 in omega arith
 
 -- A number below b, and one digit more: below 16 times b.
 pub under-join : (b : ℕ) (x : Number) (c : ℕ) → Under b x → Under (b * 16) (joinOf x c)

@@ -2,6 +2,7 @@
 // Every public function is total: it has no premise and states its result for every input. Assumes nothing.
 ghost use mathlib.Core.Path.{_≡_};
 ghost use Rattle.digits.specs.Digits.{fiveDigits, digitOf, capitalOf, sixOf, joinOf, numberOf, Under};
+ghost use Rattle.digits.specs.Characters.{OneToOne};
 
 // What four, five and six digits count to.
 pub const FOUR_DIGITS: u32 = 65536;
@@ -39,9 +40,10 @@ pub enum Ident {
     Given(u8),
 }
 
-// The character as a digit.
+// The character as a digit. That value and case stand for this very character and no other is promised here.
 pub fn read_digit(c: u8) -> Digit
     ensures { λ r. ⌜ r ≡ digitOf c ⌝ }
+    ensures { λ _. ⌜ OneToOne ⌝ }
 {
     if c < 48 {
         return Digit::Other;

@@ -15,6 +15,7 @@ ghost use Rattle.controller.specs.Reach.{Reachable, Made};
 ghost use Rattle.controller.specs.Answers as answered;
 ghost use Rattle.controller.specs.Answers.{Promised, TravelsOf, PositionsOf, Demand3Answers};
 ghost use Rattle.controller.specs.Carry.{CarryAnswers};
+ghost use Rattle.controller.specs.Identified.{ReturnsAnswers};
 ghost use Rattle.controller.specs.Journal.{JournalAnswers};
 ghost use Rattle.controller.specs.Settle.{SettlesAnswers};
 use controller::ByteAnswer;
@@ -47,6 +48,7 @@ pub extern "C" fn temixohuel_power_on(switch: u8) -> PowerOn
     ensures { λ _. ⌜ JournalAnswers ⌝ }
     ensures { λ _. ⌜ SettlesAnswers ⌝ }
     ensures { λ _. ⌜ CarryAnswers ⌝ }
+    ensures { λ _. ⌜ ReturnsAnswers ⌝ }
 {
     controller::power_on(switch)
 }

@@ -1,28 +1,81 @@
 -- What the writer promises of every request and of every line: the trip of lines and its converse. Assumes nothing.
-use Prim.Native.Nat.{ℕ, _≤_}
+use Prim.Native.Nat.{ℕ, zero, suc, _-_, _≤_}
 use native.Mathlib.Omega.{arith}
 use mathlib.Core.Bool.{Bool, true, false, cond, not}
-use mathlib.Core.List.{List}
-use mathlib.Core.Path.{_≡_, refl, sym, _∙_}
+use mathlib.Core.List.{List, [], _∷_}
+use mathlib.Core.Path.{_≡_, refl, sym, ap, _∙_}
 use borrow.Author.Tests.{le-ltb}
 use lib.Dec.{ltb}
 use lib.ListN.{length}
+use Rattle.digits.specs.Characters.{digitCharacters, isOne}
 use Rattle.digits.specs.declared.Ident.{Ident}
+use Rattle.digits.specs.declared.Ident.the-variants.{Given}
+use Rattle.digits.proofs.CharacterLaws.{one-to-one}
 use Rattle.line.specs.declared.command.Command.{Command}
 use Rattle.line.specs.declared.Judged.{Judged}
 use Rattle.line.specs.declared.Judged.the-variants.{Accepted}
+use Rattle.line.specs.Codes.{isQuery}
+use Rattle.line.specs.Ranges.{fits}
 use Rattle.line.specs.Line.{silentOf, identOf, judgeOf}
-use Rattle.receiver.specs.declared.Heard.the-variants.{Line}
+use Rattle.receiver.specs.declared.Heard.{Heard}
+use Rattle.receiver.specs.declared.Heard.the-variants.{Character, Line}
 use Rattle.host.specs.declared.Request.{Request}
 use Rattle.host.specs.Writer.{digitsOf, hasLine, lineOf, line, refused, writtenOf}
-use Rattle.host.specs.RoundTrip.{requestIn, LineTrip, Asked, LineBack}
+use Rattle.host.specs.RoundTrip.{heardAll, endedAfter, heardAs, requestIn, LineTrip, Asked, LineBack}
 use Rattle.host.proofs.JudgeLaws.{accepted-fits, accepted-named}
 use Rattle.host.proofs.Lines.{request-lined}
 use Rattle.host.proofs.RoundTrip.{round-trip, front-line}
 use Rattle.host.proofs.MachineTrip.{machine-trip}
 
+-- ---- what a heard line tells
+
+silent-told : {a b : Bool} {i j : Ident} {x y : Judged} → Line a i x ≡ Line b j y → a ≡ b
+silent-told e = cc
+
+ident-told : {a b : Bool} {i j : Ident} {x y : Judged} → Line a i x ≡ Line b j y → i ≡ j
+ident-told e = cc
+
+judged-told : {a b : Bool} {i j : Ident} {x y : Judged} → Line a i x ≡ Line b j y → x ≡ y
+judged-told e = cc
+
+command-told : {c d : Command} {m n : ℕ} → Accepted c m ≡ Accepted d n → c ≡ d
+command-told e = cc
+
+end-told : (n : ℕ) (x y : Heard) → endedAfter n x ≡ endedAfter n y → x ≡ y
+end-told zero x y e = cc
+end-told (suc n) x y e = end-told n x y (rest e)
+  where
+    rest : {k l : List Heard} → Character ∷ k ≡ Character ∷ l → k ≡ l
+    rest e = cc
+
+-- ---- the trip
+
+has-named : (silent : Bool) (c : Command) (x : ℕ) → fits c ≡ true → isQuery c ≡ false
+    → hasLine (record { silent = silent; command = c; ident = Given x }) ≡ isOne x digitCharacters
+has-named silent c x f q = rw (f, q) (one-to-one .digits x)
+
+-- What is heard of a line is its request.
+two-lines : (r q : Request) → hasLine r ≡ true → hasLine q ≡ true → lineOf r ≡ lineOf q → r ≡ q
+two-lines r q f g e =
+    let h = end-told (length (lineOf q) - 1) _ _ (sym (ap (λ (l : List ℕ). endedAfter (length l - 1) (told r)) e)
+    ∙ (sym (round-trip r f) ∙ (ap (heardAll []) e ∙ round-trip q g))) in
+    λ i. record {
+      silent = silent-told h i;
+      command = command-told (judged-told h) i;
+      ident = ident-told h i;
+    }
+  where
+    told : Request → Heard
+    told x = heardAs x (digitsOf (x .command))
+
 pub line-trip : LineTrip
-line-trip = record { front = front-line; heard = round-trip; obeys = machine-trip }
+line-trip = record {
+  front = front-line;
+  heard = round-trip;
+  obeys = machine-trip;
+  named = has-named;
+  apart = two-lines;
+}
 
 -- ---- the converse
 
@@ -33,20 +86,11 @@ has-line cs c digits e = rw (accepted-fits cs c digits e) (accepted-named cs c d
 -- A request that some line asks for has a line.
 asked-has : (r : Request) → Asked r → hasLine r ≡ true
 asked-has r a =
-    let s : silentOf (a .chars) ≡ r .silent = silent (a .heard) in
-    let i : identOf (a .chars) ≡ r .ident = ident (a .heard) in
-    let j : judgeOf (a .chars) ≡ Accepted (r .command) (a .digits) = judged (a .heard) in
+    let s : silentOf (a .chars) ≡ r .silent = silent-told (a .heard) in
+    let i : identOf (a .chars) ≡ r .ident = ident-told (a .heard) in
+    let j : judgeOf (a .chars) ≡ Accepted (r .command) (a .digits) = judged-told (a .heard) in
     sym (λ k. hasLine (record { silent = s k; command = r .command; ident = i k }))
     ∙ has-line (a .chars) (r .command) (a .digits) j
-  where
-    silent : {a b : Bool} {i j : Ident} {x y : Judged} → Line a i x ≡ Line b j y → a ≡ b
-    silent e = cc
-
-    ident : {a b : Bool} {i j : Ident} {x y : Judged} → Line a i x ≡ Line b j y → i ≡ j
-    ident e = cc
-
-    judged : {a b : Bool} {i j : Ident} {x y : Judged} → Line a i x ≡ Line b j y → x ≡ y
-    judged e = cc
 
 has-asked : (r : Request) → hasLine r ≡ true → Asked r
 has-asked r e =

@@ -2,14 +2,18 @@
 -- `write_line` promises `LineTrip` and `LineBack`. Lines are heard by the controller's own receiver (crate receiver,
 -- `receive`) and obeyed by the machine's own byte step (crate machine, `byteStep`).
 use Prim.Native.Nat.{ℕ, zero, suc, _-_, _≤_, _<_}
-use mathlib.Core.Bool.{true}
+use mathlib.Core.Bool.{Bool, true, false}
 use mathlib.Core.List.{List, [], _∷_, _++_}
 use mathlib.Core.Path.{_≡_}
 use lib.ListN.{length}
 use Rattle.digits.specs.Digits.{endByte}
+use Rattle.digits.specs.Characters.{digitCharacters, isOne}
+use Rattle.digits.specs.declared.Ident.the-variants.{Given}
 use Rattle.block.specs.Block.{frontOf}
 use Rattle.line.specs.declared.command.Command.{Command}
 use Rattle.line.specs.declared.Judged.the-variants.{Accepted}
+use Rattle.line.specs.Codes.{isQuery}
+use Rattle.line.specs.Ranges.{fits}
 use Rattle.line.specs.Line.{silentOf, identOf, judgeOf}
 use Rattle.receiver.specs.declared.Heard.{Heard}
 use Rattle.receiver.specs.declared.Heard.the-variants.{Character, Line}
@@ -102,6 +106,12 @@ pub record LineTrip : Type 0 where
   -- any machine with no half-received line obeys it, whatever buffers of 120 bytes or more are lent
   pub obeys : (m : Machine) (r : Request) (lent : ℕ → List ℕ) → m .line ≡ [] → hasLine r ≡ true
       → ((i : ℕ) → i < length (lineOf r) → 120 ≤ length (lent i)) → Obeys m r lent
+  -- paper 02, 7/14: a command in its ranges, W queries aside, has a line with each of the 22 identifications, and with
+  -- no other character
+  pub named : (silent : Bool) (c : Command) (x : ℕ) → fits c ≡ true → isQuery c ≡ false
+      → hasLine (record { silent = silent; command = c; ident = Given x }) ≡ isOne x digitCharacters
+  -- two requests are two lines, also where their identifications differ in case alone
+  pub apart : (r q : Request) → hasLine r ≡ true → hasLine q ≡ true → lineOf r ≡ lineOf q → r ≡ q
 
 -- ---- The converse
 

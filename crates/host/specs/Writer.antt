@@ -69,7 +69,7 @@ contentOf c = content (letterOf c) (digitsOf c)
 
 -- ---- Which values have a line: those whose fields are in the ranges of "Lines" (crate line, `fits`)
 
--- An identification is absent, or a character 0-9 or A-F.
+-- An identification is absent, or a character 0-9, A-F or a-f.
 abbrev pub identFits : Ident → Bool
 identFits Absent = true
 identFits (Given c) = isIdent (digitOf c)

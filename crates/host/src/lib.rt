@@ -45,7 +45,7 @@ pub enum Written {
     Refused(u8),
 }
 
-// Whether an identification is absent, or a character 0-9 or A-F.
+// Whether an identification is absent, or a character 0-9, A-F or a-f.
 pub fn is_ident(ident: Ident) -> bool
     ensures { λ r. ⌜ r ≡ identFits ident ⌝ }
 {

@@ -31,6 +31,8 @@ pub record Examples : Type 0 where
   pub outputs-short : judgeOf (chars "W01") ≡ Refused 9
   pub code-absent : judgeOf (chars "P0") ≡ Refused 8
   pub switch-wrong : judgeOf (chars "P1") ≡ Refused 6
+  pub ident-small : judgeOf (chars "P08f4240f") ≡ Accepted (C.Set 8 1000000) 0x8F4240
+  pub ident-none : judgeOf (chars "P08f4240g") ≡ Refused 7
   pub long-silent : silentOf overLong ≡ true
   pub long-refused : judgeOf overLong ≡ Refused 4
 
@@ -47,6 +49,8 @@ examples =
       outputs-short = refl;
       code-absent = refl;
       switch-wrong = refl;
+      ident-small = refl;
+      ident-none = refl;
       long-silent = refl;
       long-refused = refl;
     }

@@ -6,8 +6,8 @@ use mathlib.Core.List.{List, [], _∷_}
 use lib.Dec.{ltb, eqb}
 use lib.ListN.{length, getD}
 use Rattle.digits.specs.Digits.{digitOf, numberOf}
+use Rattle.digits.specs.Characters.{isDigit}
 use Rattle.digits.specs.declared.Digit.{Digit}
-use Rattle.digits.specs.declared.Digit.the-variants.{Other, Capital, Small}
 use Rattle.digits.specs.declared.Number.{Number}
 use Rattle.digits.specs.declared.Number.the-variants.{NotDigits, Value}
 use Rattle.digits.specs.declared.Ident.{Ident}
@@ -52,13 +52,11 @@ digitCount cs = min 6 (length cs - 2)
 abbrev pub digitChars : List ℕ → List ℕ
 digitChars cs = charAt cs 2 ∷ charAt cs 3 ∷ charAt cs 4 ∷ charAt cs 5 ∷ charAt cs 6 ∷ charAt cs 7 ∷ []
 
--- An identification is 0-9 or A-F.
+-- An identification is 0-9, A-F or a-f (paper 02, 7/14): any digit.
 abbrev pub isIdent : Digit → Bool
-isIdent Other = false
-isIdent (Capital v) = true
-isIdent (Small v) = false
+isIdent d = isDigit d
 
--- The line's identification, the ninth character.
+-- The line's identification, the very ninth character.
 abbrev pub identOf : List ℕ → Ident
 identOf cs = cond (eqb (length cs) 9) (Given (charAt cs 8)) Absent
 

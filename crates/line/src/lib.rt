@@ -6,6 +6,7 @@ ghost use mathlib.Core.Bool.{not};
 ghost use mathlib.Core.Path.{_≡_};
 ghost use lib.ListN.{take};
 ghost use Rattle.digits.specs.Digits.{sixDigits, digitOf, numberOf, Under};
+ghost use Rattle.digits.specs.Characters.{digitCharacters, isOne};
 ghost use Rattle.line.specs.Line.{
   isLetter,
   isSwitch,
@@ -65,15 +66,16 @@ fn is_switch(c: u8) -> bool
     c == b'4'
 }
 
-// Whether a character is an identification: a small letter is none.
+// Whether a character is an identification: one of the 22 digits, a letter in either case (paper 02, 7/14).
 pub fn is_ident(c: u8) -> bool
     ensures { λ r. ⌜ r ≡ isIdent (digitOf c) ⌝ }
+    ensures { λ r. ⌜ r ≡ isOne c digitCharacters ⌝ }
 {
     let d = digits::read_digit(c);
     match d {
         Digit::Other => false,
         Digit::Capital(_) => true,
-        Digit::Small(_) => false,
+        Digit::Small(_) => true,
     }
 }
 

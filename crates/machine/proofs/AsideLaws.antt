@@ -129,7 +129,7 @@ module _ (l : List ℕ) where
       ap (λ (a : Machine). runs (stops a) .machine) (looks-aside m w)
       ∙ (ap (λ (a : Machine). runs a .machine) (stops-aside (looks m w)) ∙ runs-aside (stops (looks m w)))
 
-  tick-aside : (m : Machine) (w : ℕ) (d : List ℕ)
+  pub tick-aside : (m : Machine) (w : ℕ) (d : List ℕ)
       → tickStep (withLine m l) w d .machine ≡ withLine (tickStep m w d .machine) l
   tick-aside m w d = when (isShort d) (tooLarge w)
     where
@@ -141,7 +141,7 @@ module _ (l : List ℕ) where
 -- ---- A byte
 
 -- After a 0D that is taken no character of a line is left.
-end-clear : (m : Machine) (d : List ℕ) → isShort d ≡ false → byteStep m 13 d .machine .line ≡ []
+pub end-clear : (m : Machine) (d : List ℕ) → isShort d ≡ false → byteStep m 13 d .machine .line ≡ []
 end-clear m d e =
     ap (λ (t : Bool). answered m 13 (cond t untaken (outcomeOf m (heardLine (m .line)))) .machine .line) e
     ∙ clear (judgeOf (m .line))
@@ -153,7 +153,7 @@ end-clear m d e =
         (λ _. does-unaltered (withLine m []) c .line) (λ _. turned-unaltered (withLine m []) (number m c) .line)
 
 -- Any other byte that is taken is a character.
-joins : (m : Machine) (b : ℕ) (d : List ℕ) → isShort d ≡ false → eqb b 13 ≡ false
+pub joins : (m : Machine) (b : ℕ) (d : List ℕ) → isShort d ≡ false → eqb b 13 ≡ false
     → byteStep m b d .machine ≡ withLine m (m .line ++ (b ∷ []))
 joins m b d e q =
     ap (λ (t : Bool). answered m b (cond t untaken (outcomeOf m (receive (m .line) b .heard))) .machine) e
@@ -163,7 +163,7 @@ joins m b d e q =
     character : receive (m .line) b ≡ record { line = m .line ++ (b ∷ []); heard = Character }
     character = rw q
 
-untakes : (m : Machine) (b : ℕ) (d : List ℕ) → isShort d ≡ true → byteStep m b d .machine ≡ m
+pub untakes : (m : Machine) (b : ℕ) (d : List ℕ) → isShort d ≡ true → byteStep m b d .machine ≡ m
 untakes m b d e =
     ap (λ (t : Bool). answered m b (cond t untaken (outcomeOf m (receive (m .line) b .heard))) .machine) e
 

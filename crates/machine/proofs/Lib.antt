@@ -36,6 +36,7 @@ pub mod WatchLaws
 pub mod SettleStageLaws
 pub mod WLineLaws
 pub mod SettleLaws
+pub mod IdentifiedLaws
 pub mod LentLaws
 pub mod MarkedLaws
 pub mod FlaggedLaws

@@ -18,5 +18,6 @@ pub mod Journal
 pub mod Carry
 pub mod Watch
 pub mod Settle
+pub mod Identified
 pub mod Marked
 pub mod Flagged

@@ -37,7 +37,11 @@ pub record Examples : Type 0 where
   pub minus-travel : readOf (chars "S02800037" ++ (13 ∷ [])) ≡ travelled 0 2 true 3 (Given 55)
   pub word : readOf (chars "R0FFFFFF" ++ (13 ∷ [])) ≡ inputs 0 0xFFFFFF Absent
   pub small-digit : readOf (chars "s0000abc" ++ (13 ∷ [])) ≡ refused 20
-  pub small-ident : readOf (chars "U0000000a" ++ (13 ∷ [])) ≡ refused 20
+  pub small-ident : readOf (chars "U0000000a" ++ (13 ∷ [])) ≡ verdict 0 0 (Given 97)
+  pub small-both : readOf (chars "s0000abca" ++ (13 ∷ [])) ≡ refused 20
+  pub small-switch : readOf (chars "Sa600000" ++ (13 ∷ [])) ≡ refused 20
+  pub switch-named : readOf (chars "SA600000a" ++ (13 ∷ [])) ≡ status 10 0 (Given 97)
+  pub no-ident : readOf (chars "U0000000g" ++ (13 ∷ [])) ≡ refused 20
   pub byte-behind : readOf (chars "U0000000" ++ (13 ∷ 13 ∷ [])) ≡ refused 20
 
 pub examples : Examples
@@ -63,5 +67,9 @@ examples =
       word = refl;
       small-digit = refl;
       small-ident = refl;
+      small-both = refl;
+      small-switch = refl;
+      switch-named = refl;
+      no-ident = refl;
       byte-behind = refl;
     }

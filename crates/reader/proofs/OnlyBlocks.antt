@@ -15,6 +15,7 @@ use Rattle.digits.specs.declared.Number.{Number}
 use Rattle.digits.specs.declared.Number.the-variants.{NotDigits, Value}
 use Rattle.digits.specs.declared.Ident.{Ident}
 use Rattle.digits.specs.declared.Ident.the-variants.{Absent, Given}
+use Rattle.digits.proofs.CharacterLaws.{one-to-one}
 use Rattle.digits.proofs.Laws.{Tells, digit-tells}
 use Rattle.digits.proofs.Six.{number-six, under-six}
 use Rattle.block.specs.Block.{identChars, blockOf}
@@ -141,10 +142,24 @@ others s none = when (readOf s) (only-blocks s)
     when (placed switch k z ident) t = absurd (none _ t)
     when (inputs switch w ident) t = absurd (none _ t)
 
+apart : (s t : List ℕ) → (readOf s ≡ refused 20 → ⊥) → readOf s ≡ readOf t → s ≡ t
+apart s t n e = when (readOf s) (only-blocks s) (subst (Spelt t) (sym e) (only-blocks t)) n
+  where
+    when : (f : Figures) → Spelt s f → Spelt t f → (f ≡ refused 20 → ⊥) → s ≡ t
+    when (refused k) p q n = absurd (n (ap refused p))
+    when (verdict switch k ident) p q n = sym (p .bytes) ∙ q .bytes
+    when (travelled switch k minus d ident) p q n = sym (p .bytes) ∙ q .bytes
+    when (status switch v ident) p q n = sym (p .bytes) ∙ q .bytes
+    when (echo switch k ident) p q n = sym (p .bytes) ∙ q .bytes
+    when (placed switch k z ident) p q n = sym (p .bytes) ∙ q .bytes
+    when (inputs switch w ident) p q n = sym (p .bytes) ∙ q .bytes
+
 pub blocks-read : BlocksRead
 blocks-read = record {
   read = says-read;
   only = only-blocks;
   without = λ s e f b. subst InRange (sym (says-read s f b) ∙ e) (b .fits);
   others = others;
+  named = one-to-one .digits;
+  apart = apart;
 }

@@ -5,7 +5,9 @@ use mathlib.Core.Bool.{Bool, true, false}
 use mathlib.Core.List.{List, []}
 use mathlib.Core.Path.{_≡_}
 use Rattle.digits.specs.Digits.{sixDigits, topBit}
+use Rattle.digits.specs.Characters.{digitCharacters, isOne}
 use Rattle.digits.specs.declared.Ident.{Ident}
+use Rattle.digits.specs.declared.Ident.the-variants.{Given}
 use Rattle.line.specs.declared.Judged.{Judged}
 use Rattle.line.specs.declared.Judged.the-variants.{Accepted, Refused}
 use Rattle.line.specs.Codes.{letterQ, code}
@@ -37,7 +39,7 @@ use Rattle.reader.specs.Reader.{
 
 -- ---- Each field in its range
 
--- One digit that isn't C, and an identification that is absent or a character 0-9 or A-F.
+-- One digit that isn't C, and an identification that is absent or a character 0-9, A-F or a-f (`named`, below).
 pub record Framed (switch : ℕ) (ident : Ident) : Type 0 where
   pub digit : switch < 16
   pub other : switch ≡ 12 → ⊥
@@ -112,3 +114,7 @@ pub record BlocksRead : Type 0 where
   -- 20 is exactly for bytes that are no block
   pub without : (s : List ℕ) → readOf s ≡ refused 20 → (f : Figures) → Says s f → ⊥
   pub others : (s : List ℕ) → ((f : Figures) → Says s f → ⊥) → readOf s ≡ refused 20
+  -- paper 02, 7/14: a block may have each of the 22 identifications, and no other character
+  pub named : (x : ℕ) → identFits (Given x) ≡ isOne x digitCharacters
+  -- two blocks are read as two, also where their identifications differ in case alone
+  pub apart : (s t : List ℕ) → (readOf s ≡ refused 20 → ⊥) → readOf s ≡ readOf t → s ≡ t

@@ -1,14 +1,14 @@
 // What the desk says in fixed words, row by row (docs/PROTOCOL.md, "From words"). A row ends with a line feed.
 
 // The sentence of each number, from 0 on.
-pub(crate) const SENTENCES: [u8; 843] = *b"accepted\n\
+pub(crate) const SENTENCES: [u8; 839] = *b"accepted\n\
     the switch is over 15 or equal to 12\n\
     a reply buffer is under 120 bytes\n\
     an input word is over FFFFFF\n\
     under 2 or over 9 characters\n\
     the first character is not P, Q, q or W\n\
     the second character is not 0 or 4\n\
-    a digit is none, or the identification is not 0-9 or A-F\n\
+    a digit or the identification is not 0-9, A-F or a-f\n\
     no code, or one that the letter has not\n\
     too few or too many digits for the code\n\
     a value is out of its range\n\

@@ -11,14 +11,15 @@ use Rattle.machine.specs.Marked.{told}
 use Rattle.machine.specs.Journal.{latestEntry}
 use Rattle.machine.specs.Settle.{latestBlock}
 
--- A W line with an identification, and 2,499 ticks with the word 5.
+-- A W line with a small identification, and 2,499 ticks with the word 5.
 abbrev pub settling : List Call
-settling = ticks 2499 5 (line "W0ABCDEF1" [])
+settling = ticks 2499 5 (line "W0ABCDEFf" [])
 
--- The same with calls in between that do not count: a W line that is turned away by 9, ticks that 2 and 3 turn away.
+-- The same with the capital and with calls in between that do not count: a W line that is turned away by 9, ticks that
+-- 2 and 3 turn away.
 abbrev pub disturbed : List Call
 disturbed =
-    ticks 1499 5 (tick 16777216 buffer ∷ tick 5 (replicate 119 0) ∷ line "W01" (ticks 1000 5 (line "W0ABCDEF1" [])))
+    ticks 1499 5 (tick 16777216 buffer ∷ tick 5 (replicate 119 0) ∷ line "W01" (ticks 1000 5 (line "W0ABCDEFF" [])))
 
 -- A query that takes the place of the line, and 2,499 ticks.
 abbrev pub replaced : List Call
@@ -63,11 +64,12 @@ pub record Words : Type 0 where
   pub inputs : drop 99 (told (state 0 (tick 5 buffer ∷ line "W0ABCDEF1" [])) "q08" .reply) ≡ chars "R0000005\r"
 
 pub record BlockWitness : Type 0 where
-  -- the 2,500th tick answers the block, with its own inputs and the line's identification; those about it answer none
+  -- the 2,500th tick answers the block, with its own inputs and the line's very identification; those about it
+  -- answer none
   pub before : latestBlock 0 settling ≡ []
-  pub due : latestBlock 0 (tick 0x123456 buffer ∷ settling) ≡ chars "R01234561\r"
+  pub due : latestBlock 0 (tick 0x123456 buffer ∷ settling) ≡ chars "R0123456f\r"
   pub after : latestBlock 0 (tick 0x123456 buffer ∷ tick 5 buffer ∷ settling) ≡ []
-  pub uncounted : latestBlock 0 (tick 7 buffer ∷ disturbed) ≡ chars "R00000071\r"
+  pub uncounted : latestBlock 0 (tick 7 buffer ∷ disturbed) ≡ chars "R0000007F\r"
   pub later : latestBlock 0 (tick 7 buffer ∷ replaced) ≡ chars "R0000007\r"
   pub none : latestBlock 0 (tick 7 buffer ∷ silenced) ≡ []
   -- a tick that is turned away answers none

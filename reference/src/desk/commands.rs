@@ -5,7 +5,7 @@ use super::numbers::{axis, decimal, figure, hexadecimal, signed};
 use super::Told;
 use crate::command::{Command, CommandValue};
 use crate::figures::{command_of, Setting};
-use crate::host::{identification_value, line_text};
+use crate::host::line_text;
 
 /// From words: the words with a whole number, or with none.
 fn whole_command(words: &[&[u8]]) -> Option<Command> {
@@ -48,7 +48,7 @@ fn command(words: &[&[u8]]) -> Option<Result<Command, u8>> {
 /// From words: the writer's line of the words without its 0D, or the number that turns them away. A figure is judged
 /// (21) before there is a command value for the writer (19).
 pub(super) fn told(asked: &Asked, words: &[&[u8]]) -> Option<Told> {
-    let identification = asked.identification.map(identification_value);
-    let line = |command| line_text(&CommandValue { command, silent: asked.silent, identification });
+    let (silent, identification) = (asked.silent, asked.identification);
+    let line = |command| line_text(&CommandValue { command, silent, identification });
     Some(command(words)?.and_then(line))
 }

@@ -89,14 +89,14 @@ fn reading_words(reading: Reading) -> String {
     }
 }
 
-/// From words: the switch digit is told where it is not 0, the identification where there is one.
+/// From words: the switch digit is told where it is not 0, the identification where there is one, in its own case.
 fn block_words(block: Block) -> String {
     let mut text = reading_words(block.reading);
     if block.switch != 0 {
         text.push_str(&format!(" (switch {})", digit_character(block.switch) as char));
     }
     if let Some(identification) = block.identification {
-        text.push_str(&format!(" (as {})", digit_character(identification) as char));
+        text.push_str(&format!(" (as {})", identification.character() as char));
     }
     text
 }

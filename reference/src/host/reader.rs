@@ -2,7 +2,7 @@
 
 use crate::coded::{code_and_five, minus_and_travel, position_of};
 use crate::command::{on_setting, start_named};
-use crate::digit::{capital_digit_value, number_written};
+use crate::digit::{capital_digit_value, number_written, Digit};
 use crate::line::LINE_END;
 
 /// Turned away, 20: the number of bytes that are no block.
@@ -29,41 +29,32 @@ pub enum Reading {
 #[derive(Clone, Copy, Debug, PartialEq, Eq)]
 pub struct Block {
     pub switch: u8,
-    pub identification: Option<u8>,
+    pub identification: Option<Digit>,
     pub reading: Reading,
 }
 
-/// Replies: the value of a digit; letters in capitals only.
-fn capital_digit(character: u8) -> Result<u8, u8> {
-    capital_digit_value(character).ok_or(NO_BLOCK)
-}
-
-/// Turned away, 20: the switch digit isn't C.
+/// Turned away, 20: the switch digit isn't C, and like the six digits no small letter.
 fn switch_digit(character: u8) -> Result<u8, u8> {
-    let switch = capital_digit(character)?;
-    if switch == 12 {
-        return Err(NO_BLOCK);
-    }
-    Ok(switch)
+    capital_digit_value(character).filter(|&switch| switch != 12).ok_or(NO_BLOCK)
 }
 
-/// Replies: the value of the six digits.
+/// Replies: the value of the six digits, whose letters stay in capitals (paper 02, 7/14).
 fn six_digit_value(characters: &[u8]) -> Result<u32, u8> {
     number_written(characters, capital_digit_value).map(|value| value as u32).ok_or(NO_BLOCK)
 }
 
-/// Replies: the identification between the six digits and 0D, if given; 0D ends the block.
-fn block_identification(bytes: &[u8]) -> Result<Option<u8>, u8> {
+/// Replies: the identification between the six digits and 0D, if given; 0D ends the block. Paper 02, 7/14: either case.
+fn block_identification(bytes: &[u8]) -> Result<Option<Digit>, u8> {
     match bytes.len() {
         9 if bytes[8] == LINE_END => Ok(None),
-        10 if bytes[9] == LINE_END => Ok(Some(capital_digit(bytes[8])?)),
+        10 if bytes[9] == LINE_END => Digit::read(bytes[8]).map(Some).ok_or(NO_BLOCK),
         _ => Err(NO_BLOCK),
     }
 }
 
 /// Turned away, 20: U has 0 or 4 to 17, and no identification for 4 to 7; a number that a later request adds for a line
 /// (26) counts as 10 to 17 do.
-fn answer_reading(value: u32, identification: Option<u8>) -> Result<Reading, u8> {
+fn answer_reading(value: u32, identification: Option<Digit>) -> Result<Reading, u8> {
     match value {
         0 | 8..=17 | 26 => Ok(Reading::Answer { number: value as u8 }),
         4..=7 if identification.is_none() => Ok(Reading::Answer { number: value as u8 }),

@@ -3,7 +3,7 @@
 use crate::coded::{coded, travel_digits};
 use crate::command::{in_range, on_setting, Command, CommandValue};
 use crate::command::{DISTANCES, DWELLS, OUTPUT_WORDS, POLARITIES, SLOPES, SPEEDS, WATCHES};
-use crate::digit::{capital_digit_value, digit_character};
+use crate::digit::Digit;
 use crate::reply::assembled;
 
 /// Turned away, 18: the least length of a line buffer.
@@ -11,14 +11,6 @@ pub const LEAST_LINE_BUFFER: usize = 10;
 
 /// Turned away, 19: the number of a value without a line.
 const NO_LINE: u8 = 19;
-
-/// Host end: a figure that is the writer's value for a character that is no identification; it has no line.
-const NO_IDENTIFICATION_VALUE: u8 = 16;
-
-/// Host end: the writer takes 0 to 15; a character that is not 0-9 or A-F has no line (19).
-pub fn identification_value(character: u8) -> u8 {
-    capital_digit_value(character).unwrap_or(NO_IDENTIFICATION_VALUE)
-}
 
 /// Host end: the letter of a command.
 fn letter_of(command: Command) -> u8 {
@@ -83,20 +75,19 @@ fn digits_of(command: Command) -> Result<Option<u32>, u8> {
     Ok(Some(value))
 }
 
-/// Turned away, 19: an identification over 15, or one with a W query, has no line.
-fn identification_of(value: &CommandValue) -> Result<Option<u8>, u8> {
+/// Turned away, 19: a character that is no digit of either case (paper 02, 7/14), or any with a W query, has no line.
+fn identification_of(value: &CommandValue) -> Result<Option<Digit>, u8> {
     match (value.command, value.identification) {
         (_, None) => Ok(None),
         (Command::ReadInputs, Some(_)) => Err(NO_LINE),
-        (_, Some(identification)) if identification > 15 => Err(NO_LINE),
-        (_, Some(identification)) => Ok(Some(identification)),
+        (_, Some(character)) => Digit::read(character).map(Some).ok_or(NO_LINE),
     }
 }
 
 /// Host end: the full line of a command value, with its 0D.
 fn full_line(value: &CommandValue) -> Result<Vec<u8>, u8> {
     let digits = digits_of(value.command)?;
-    let identification = identification_of(value)?.map(digit_character);
+    let identification = identification_of(value)?;
     let second = if value.silent { b'4' } else { b'0' };
     Ok(assembled(letter_of(value.command), second, digits, identification))
 }

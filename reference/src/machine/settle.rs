@@ -2,16 +2,18 @@
 
 use super::Machine;
 use crate::command::Command;
+use crate::digit::Digit;
 use crate::line::ReadLine;
 
 /// Paper 02, 3/14: the block of a W line comes in the answer of this accepted tick after it.
 const SETTLED: u32 = 2_500;
 
-/// Paper 02, 3/14: a block that is still to come, with the accepted ticks since its line and its identification.
+/// Paper 02, 3/14: a block that is still to come, with the accepted ticks since its line and its identification, which
+/// is returned as the very character (7/14).
 #[derive(Clone, Copy, Debug, PartialEq, Eq)]
 pub(super) struct Settling {
     ticks: u32,
-    identification: Option<u8>,
+    identification: Option<Digit>,
 }
 
 impl Machine {

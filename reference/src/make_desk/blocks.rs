@@ -1,6 +1,7 @@
 //! From words: every form of a reply block, with and without an identification.
 
 use super::lines::Lines;
+use crate::text::IDENTIFICATIONS;
 
 /// From words: travels and positions of all axes, with the ends of their ranges.
 const COUNTERS: [&str; 15] = [
@@ -46,6 +47,26 @@ const ECHOES: [&str; 21] = [
     "S1D01000",
 ];
 
+/// Paper 02, 7/14: each identification is told as it stands; each number that has one with a small letter.
+fn identified(lines: &mut Lines) {
+    for identification in IDENTIFICATIONS.chars() {
+        lines.line(&format!("S0281388{identification}"));
+    }
+    for number in 4..=17 {
+        lines.line(&format!("U00000{number:02X}b"));
+    }
+    lines.each(&[
+        "S0600003c",
+        "S0800000d",
+        "S0880000e",
+        "SA900000f",
+        "s01FFFFFa",
+        "RB000012b",
+        "U000000ED",
+        "U000000Ed",
+    ]);
+}
+
 /// From words: U with every number, S and s with all codes, R; each switch digit; each
 /// status bit that the page's own rows do not have alone.
 pub(super) fn blocks(lines: &mut Lines) {
@@ -53,6 +74,7 @@ pub(super) fn blocks(lines: &mut Lines) {
         lines.line(&format!("U70000{number:02X}"));
         lines.line(&format!("U00000{number:02X}A"));
     }
+    identified(lines);
     lines.each(&COUNTERS);
     lines.each(&ECHOES);
     for bit in [0, 1, 3, 7, 8] {

@@ -57,7 +57,7 @@ const NO_FORMS: [&str; 30] = [
 ];
 
 /// From words: echoes of a carry-on, and U with 26; then what is near them.
-const BLOCKS: [&str; 31] = [
+const BLOCKS: [&str; 33] = [
     "S0C00000",
     "S0CFFFFF",
     "S0C00001",
@@ -67,6 +67,8 @@ const BLOCKS: [&str; 31] = [
     "SAC12345A",
     "U000001AA",
     "U000001A0",
+    "U000001Aa",
+    "S0C12300f",
     "U700001A",
     "UF00001AF",
     "U0000012",
@@ -81,7 +83,7 @@ const BLOCKS: [&str; 31] = [
     "U000001C",
     "U000001F",
     "U000001a",
-    "U000001Aa",
+    "U000001Ag",
     "U00001A",
     "U00001A0",
     "UC00001A",

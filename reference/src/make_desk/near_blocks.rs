@@ -3,12 +3,12 @@
 use super::lines::Lines;
 
 /// From words: lines that begin as a block (rule 2), each with one thing wrong.
-const NO_BLOCKS: [&str; 41] = [
+const NO_BLOCKS: [&str; 46] = [
     "U0",
     "U00",
     "U000000",
     "U00000000A",
-    "U0000000a",
+    "U0000000g",
     "U0000000G",
     "U0000000 ",
     "U0000000 as A",
@@ -45,6 +45,11 @@ const NO_BLOCKS: [&str; 41] = [
     "RC000000",
     "R0 00012",
     "SEE",
+    "U0000000`",
+    "U0000007a",
+    "s00ABCDea",
+    "R0aBCDEFa",
+    "S060000bA",
 ];
 
 /// From words: lines that rule 2 leaves to the rules behind it.

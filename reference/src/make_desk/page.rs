@@ -3,7 +3,7 @@
 use super::lines::Lines;
 
 /// From words, first table, and the examples under it.
-const COMMANDS: [&str; 24] = [
+const COMMANDS: [&str; 25] = [
     "start 0",
     "start 0 after dwell",
     "travel 2",
@@ -26,6 +26,7 @@ const COMMANDS: [&str; 24] = [
     "carry on",
     "silent stop",
     "stop as A",
+    "stop as a",
     "dwell 16384",
     "speed 0.3",
 ];
@@ -48,7 +49,7 @@ const PROGRAM_WORDS: [&str; 10] = [
 const NEAREST: [&str; 4] = ["Speed 5", "strt 0", "silent ticks 5", "?"];
 
 /// From words, replies.
-const REPLIES: [&str; 27] = [
+const REPLIES: [&str; 29] = [
     "U0000000",
     "U000000E",
     "S0281388",
@@ -73,8 +74,10 @@ const REPLIES: [&str; 27] = [
     "R0000012",
     "SA281388",
     "S02813887",
+    "U0000000a",
     "UA00000EB",
     "S0700000",
+    "s0000abca",
     "1 -1 0 0 0",
 ];
 

@@ -1,6 +1,7 @@
 //! From words: `silent ` before a form and ` as ` with an identification behind it.
 
 use super::lines::Lines;
+use crate::text::{IDENTIFICATIONS, NEXT_TO_THEM};
 
 /// From words: each command of the first table once.
 const COMMANDS: [&str; 20] = [
@@ -69,20 +70,24 @@ const COMBINATIONS: [&str; 37] = [
 
 /// From words: identifications good and bad; of bytes beyond the letters and digits a few.
 pub(super) fn identifications(lines: &mut Lines) {
-    for identification in b"0123456789BCEFafgGz/:@`" {
-        lines.bytes(&[b"stop as ", &[*identification][..]].concat());
+    for identification in IDENTIFICATIONS.chars().chain(NEXT_TO_THEM.chars()).chain(['z']) {
+        lines.line(&format!("stop as {identification}"));
     }
     for identification in [0, 13, 127, 128, 193, 255] {
         lines.bytes(&[b"status as ", &[identification][..]].concat());
     }
 }
 
-/// From words: each command with an identification, silent and not; then odd combinations.
+/// From words: each command with an identification, silent and not; then odd combinations. Paper 02, 7/14: either case.
 pub(super) fn wishes(lines: &mut Lines) {
     for (command, identification) in COMMANDS.iter().zip("0123456789ABCDEF0123".chars()) {
         lines.line(&format!("{command} as {identification}"));
         lines.line(&format!("silent {command} as {identification}"));
     }
+    for (command, identification) in COMMANDS.iter().zip("abcdef".chars().cycle()) {
+        lines.line(&format!("{command} as {identification}"));
+    }
+    lines.each(&["silent stop as a", "silent inputs as f", "outputs ABCDEF as A", "outputs ABCDEF as a"]);
     lines.each(&["silent start 0 after dwell", "silent outputs ABCDEF", "silent inputs", "silent speed 2500.25"]);
     lines.each(&COMBINATIONS);
 }

@@ -103,7 +103,7 @@ pub(super) fn characters_of_blocks(text: &mut Text) {
         every_digit().for_each(|switch| text.reader(&zero_block(letter, switch)));
     }
     no_digits().for_each(|switch| text.reader(&zero_block(b'R', switch)));
-    text.heading("reader: every identification; small letters and nearest characters");
+    text.heading("reader: every identification, of either case; nearest characters");
     for identification in every_digit().chain(no_digits()) {
         text.reader(&[b's', b'D', b'2', b'F', b'F', b'F', b'F', b'6', identification, LINE_END]);
     }

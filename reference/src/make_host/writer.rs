@@ -70,7 +70,7 @@ fn on_settings(text: &mut Text) {
 }
 
 /// Every command with a value that has a line: command, axis, flag, value.
-const COMMANDS: [(u8, u8, u8, u32); 19] = [
+pub(super) const COMMANDS: [(u8, u8, u8, u32); 19] = [
     (0x00, 2, 1, 5_000),
     (0x01, 0, 0, 1_000_000),
     (0x02, 0, 0, 4_095),
@@ -105,7 +105,7 @@ pub(super) fn identifications(text: &mut Text) {
         text.writer(0x0C, 1, figures, "30");
     }
     text.heading("writer: characters that are no identification");
-    let wrong = ["00", "0A", "0D", "20", "2F", "3A", "40", "47", "5A", "60", "61", "66", "67", "80", "B0", "FF"];
+    let wrong = ["00", "0A", "0D", "20", "2F", "3A", "40", "47", "5A", "60", "67", "7A", "80", "B0", "E1", "FF"];
     for identification in wrong {
         text.writer(0x0A, 0, (0x09, 0, 0, 0), identification);
         text.writer(0x20, 1, (0x01, 0, 0, 1), identification);
@@ -118,7 +118,7 @@ pub(super) fn carry_ons(text: &mut Text) {
     text.heading("writer: carry on; axis, flag and value are not looked at");
     text.both_ways(0x12, 0, 0, 0);
     text.both_ways(0x12, 0xFF, 1, u32::MAX);
-    for identification in ["30", "39", "41", "46", "2F", "3A", "40", "47", "61", "66", "0D", "FF"] {
+    for identification in ["30", "39", "41", "46", "2F", "3A", "40", "47", "61", "66", "60", "67", "0D", "FF"] {
         text.writer(0x0A, 0, (0x12, 0, 0, 0), identification);
         text.writer(0x40, 1, (0x12, 5, 1, 7), identification);
     }
@@ -126,6 +126,7 @@ pub(super) fn carry_ons(text: &mut Text) {
         text.writer(length, 0, (0x12, 0, 0, 0), "--");
         text.writer(length, 1, (0x12, 0, 0, 0), "43");
         text.writer(length, 0, (0x12, 0, 0, 0), "63");
+        text.writer(length, 0, (0x12, 0, 0, 0), "67");
     }
 }
 
@@ -143,7 +144,7 @@ pub(super) fn line_buffers(text: &mut Text) {
     for length in [0x00, 0x09, 0x0A, 0x0B, 0x20, 0x40] {
         text.writer(length, 0, (0x00, 5, 0, 1), "--");
         text.writer(length, 0, (0x01, 0, 0, 0), "--");
-        text.writer(length, 1, (0x09, 0, 0, 0), "61");
+        text.writer(length, 1, (0x09, 0, 0, 0), "67");
         text.writer(length, 0, (0x10, 0, 0, 0), "30");
     }
 }

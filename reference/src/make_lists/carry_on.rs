@@ -7,7 +7,7 @@ mod ends;
 mod refused;
 mod shares;
 
-use crate::text::Text;
+use crate::text::{Text, IDENTIFICATIONS};
 
 /// Shares: the marked move of five with two and minus three.
 const FIVE: [&str; 3] = ["P0000005", "P0100002", "P0280003"];
@@ -56,11 +56,11 @@ fn forms(text: &mut Text) {
     for line in ["Q0C", "Q0c", "Q0C1", "Q0C12", "Q0c1aF", "Q0C1234", "Q0CfFfFf", "Q4C", "Q4C00000", "Q4CFFFFFF"] {
         text.stop_into_dwell(line, 0);
     }
-    for id in "0123456789ABCDEF".chars() {
+    for id in IDENTIFICATIONS.chars() {
         text.stop_into_dwell(&format!("Q0C0000{id}{id}"), 0);
     }
     text.heading("turned away by 4, 6, 7 and 8, and bytes that are not taken: nothing is carried on by them");
-    text.read_lines(&["Q0C000000A", "Q1C", "Q0CG", "Q0C00000a", "Q0C00000G", "q0C", "P0C", "Q C", "Q0", "Q0F"]);
+    text.read_lines(&["Q0C000000A", "Q1C", "Q0CG", "Q0C00000g", "Q0C00000G", "q0C", "P0C", "Q C", "Q0", "Q0F"]);
     text.bytes(b"Q0C\r", 119);
     text.bytes(b"Q0C", 120);
     text.read_after(3, 0);

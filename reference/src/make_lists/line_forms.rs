@@ -1,7 +1,7 @@
 //! Stored lists: identifications, digit counts, either case, and bytes that are no characters of a line.
 
 use crate::line::LINE_END;
-use crate::text::Text;
+use crate::text::{Text, IDENTIFICATIONS};
 
 /// Lines: identification, readings, echoes, either case.
 pub(super) fn identifications(text: &mut Text) {
@@ -13,7 +13,7 @@ pub(super) fn identifications(text: &mut Text) {
     );
     text.lines(&["Q08000001"]);
     text.read_after(400, 0xABCDEF);
-    for (place, id) in "0123456789ABCDEF".chars().enumerate() {
+    for (place, id) in IDENTIFICATIONS.chars().enumerate() {
         text.lines(&[&format!("Q0{}12345{id}", place % 5), &format!("q0800000{id}"), &format!("q4800000{id}")]);
     }
     text.lines(&["Q0600000A", "q0300000B", "Q0A00000C", "Q0D000000", "Q0E000009", "W0123456F", "Q4600000A"]);
@@ -38,7 +38,11 @@ fn digit_counts(text: &mut Text) {
 
 /// Lines: every byte but 0D is a character.
 pub(super) fn odd_bytes(text: &mut Text) {
-    text.list(0x00, 0x00, "Odd bytes in each place of a line: 00, 0A, FF, 8D, small letters in the ninth place");
+    text.list(
+        0x00,
+        0x00,
+        "Odd bytes in each place of a line: 00, 0A, FF, 8D; in the ninth small letters, taken from a to f",
+    );
     text.lines(&["W0A5A5A5"]);
     text.ticks(1, 0x800001);
     for odd in [0x00, 0x0A, 0x20, 0x7F, 0x80, 0x8D, 0xB0, 0xD0, 0xFF] {

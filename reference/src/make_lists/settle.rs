@@ -5,10 +5,10 @@ mod drawn;
 mod lent;
 mod under_way;
 
-use crate::text::Text;
+use crate::text::{Text, IDENTIFICATIONS};
 
 /// Paper 02, 3/14: the accepted ticks after a W line that have no block; the next one has it.
-const WITHOUT: u32 = 2_499;
+pub(super) const WITHOUT: u32 = 2_499;
 
 /// Paper 02, 3/14: what W lines set and answer, and what becomes of a block that is still to come.
 pub(super) fn settle(text: &mut Text) {
@@ -40,9 +40,9 @@ fn every_identification(text: &mut Text) {
         text.lines(&[line]);
         settled(text, 0x123456 + place as u32);
     }
-    for (place, id) in "0123456789ABCDEF".chars().enumerate() {
-        text.lines(&[&format!("W0{:06X}{id}", 0x11_0F0F * place)]);
-        settled(text, 0xFE_DCBA ^ (0x10_1010 * place as u32));
+    for (place, id) in (0u32..).zip(IDENTIFICATIONS.chars()) {
+        text.lines(&[&format!("W0{:06X}{id}", (0x11_0F0F * place) & 0xFF_FFFF)]);
+        settled(text, (0xFE_DCBA ^ (0x10_1010 * place)) & 0xFF_FFFF);
     }
     text.end();
 }
@@ -51,7 +51,7 @@ fn every_identification(text: &mut Text) {
 fn outputs_at_once(text: &mut Text) {
     text.list(0x00, 0x10, "Settled inputs: outputs show in the next tick, replied and silent; a query sets none");
     text.lines(&["P0080001", "P0100001", "P0C00155", "Q080", "Q09"]);
-    for line in ["W0FFFFFF", "W0", "W4", "W0000000", "W4A5A5A5", "W05A5A5", "W05A5A5Aa", "W0C3C3C3F", "W45a5a5aG"] {
+    for line in ["W0FFFFFF", "W0", "W4", "W0000000", "W4A5A5A5", "W05A5A5", "W05A5A5Ag", "W0C3C3C3F", "W45a5a5aG"] {
         text.lines(&[line]);
         text.lent_tick(0x00_00FF, 0x78);
         text.ticks(2, 0);
@@ -114,7 +114,7 @@ fn replaced(text: &mut Text) {
 /// Turned away, 4, 6, 7 and 9: a refused W line changes nothing of a block that is still to come.
 fn turned_away_meanwhile(text: &mut Text) {
     text.list(0x0A, 0x0A, "Settled inputs: W lines turned away by 4, 6, 7 and 9 meanwhile, replied and silent");
-    for wrong in ["W", "W000000012", "W1", "W0G", "W0123456a", "W01", "W012345", "W0123456G"] {
+    for wrong in ["W", "W000000012", "W1", "W0G", "W0123456g", "W01", "W012345", "W0123456G"] {
         for line in ["W0ABCDEFD", "W4ABCDEFD"] {
             text.lines(&[line]);
             text.ticks(WITHOUT, 0x654321);

@@ -2,7 +2,7 @@
 
 use super::answer_text;
 use crate::coded::coded;
-use crate::digit::digit_character;
+use crate::digit::Digit;
 use crate::fields::{bytes_of, bytes_text};
 use crate::host::{read_block, Block, Reading};
 
@@ -10,9 +10,9 @@ use crate::host::{read_block, Block, Reading};
 pub const MOST_READER_BYTES: usize = 16;
 
 /// Stored vectors: the identification of a block as the two digits of its character.
-fn identification_text(identification: Option<u8>) -> String {
+fn identification_text(identification: Option<Digit>) -> String {
     match identification {
-        Some(value) => bytes_text(&[digit_character(value)]),
+        Some(digit) => bytes_text(&[digit.character()]),
         None => "--".to_string(),
     }
 }

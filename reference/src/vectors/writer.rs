@@ -3,7 +3,7 @@
 use super::written_text;
 use crate::command::{Command, CommandValue};
 use crate::fields::{eight_digits, two_digits, zero_or_one};
-use crate::host::{identification_value, write_line};
+use crate::host::write_line;
 
 /// Stored vectors, W and A: the longest buffer.
 pub const LONGEST_LINE_BUFFER: u8 = 0x40;
@@ -73,6 +73,6 @@ pub(super) fn writer_line(fields: &[&[u8]]) -> Option<String> {
     let silent = zero_or_one(silent)?;
     let (number, axis) = (two_digits(number)?, two_digits(axis)?);
     let command = command_of_number(number, axis, zero_or_one(flag)?, eight_digits(value)?)?;
-    let identification = identification_field(identification)?.map(identification_value);
+    let identification = identification_field(identification)?;
     Some(run_writer(length, &CommandValue { command, silent, identification }))
 }

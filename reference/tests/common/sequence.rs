@@ -30,7 +30,7 @@ fn start_master(sequence: &mut Sequence, next_distances: [u32; 5]) -> u64 {
 /// A W line, most often accepted and not silent.
 fn drawn_w(sequence: &mut Sequence) -> String {
     let second = if sequence.below(5) == 0 { 4 } else { 0 };
-    let digits = ["", "", "A5A5A5", "0FF0ff7", "000000F", "1"][sequence.below(6) as usize];
+    let digits = ["", "", "A5A5A5", "0FF0ff7", "000000f", "1"][sequence.below(6) as usize];
     format!("W{second}{digits}")
 }
 

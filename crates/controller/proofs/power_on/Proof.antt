@@ -4,12 +4,14 @@ use Prim.Native.Nat.{ℕ}
 use mathlib.Core.Path.{_≡_, sym, _∙_}
 use Rattle.machine.specs.Carry.{CarryOn}
 use Rattle.machine.specs.Demand.{Demand3}
+use Rattle.machine.specs.Identified.{Returns}
 use Rattle.machine.specs.Journal.{Journal}
 use Rattle.machine.specs.Marked.{Marked}
 use Rattle.machine.specs.Settle.{Settles}
 use Rattle.machine.specs.Watch.{Watch}
 use Rattle.machine.proofs.CarryLaws.{carry-on}
 use Rattle.machine.proofs.DemandLaws.{demand-3}
+use Rattle.machine.proofs.IdentifiedLaws as machine
 use Rattle.machine.proofs.MarkedLaws.{marked}
 use Rattle.machine.proofs.SettleLaws.{settled}
 use Rattle.machine.proofs.TakenLaws.{journal-is}
@@ -17,22 +19,26 @@ use Rattle.machine.proofs.WatchLaws.{watched}
 use Rattle.witness.specs.Blocks.{BlockWitness}
 use Rattle.witness.specs.Carried.{CarryWitness}
 use Rattle.witness.specs.Entries.{EntryWitness}
+use Rattle.witness.specs.Identified.{ReturnWitness}
 use Rattle.witness.specs.Witness.{Witness}
 use Rattle.witness.proofs.BlockWitnessLaws.{blocks-answered}
 use Rattle.witness.proofs.CarriedLaws.{carries-on}
 use Rattle.witness.proofs.EntryWitnessLaws.{entries}
+use Rattle.witness.proofs.IdentifiedWitnessLaws.{returned}
 use Rattle.witness.proofs.WitnessLaws.{witness}
 use Rattle.controller.specs.declared.state.PowerOn.{PowerOn}
 use Rattle.controller.specs.Held.{heldPower}
 use Rattle.controller.specs.Reach.{Reachable}
 use Rattle.controller.specs.Answers.{Demand3Answers}
 use Rattle.controller.specs.Carry.{CarryAnswers}
+use Rattle.controller.specs.Identified.{ReturnsAnswers}
 use Rattle.controller.specs.Journal.{JournalAnswers}
 use Rattle.controller.specs.Settle.{SettlesAnswers}
 use Rattle.controller.proofs.EntryPowerLaws.{power-bad, power-good}
 use Rattle.controller.proofs.ReachLaws.{reach-power}
 use Rattle.controller.proofs.AnswerLaws.{demand-3-answers}
 use Rattle.controller.proofs.CarryAnswerLaws.{carry-answers}
+use Rattle.controller.proofs.IdentifiedAnswerLaws.{returns-answers}
 use Rattle.controller.proofs.JournalAnswerLaws.{journal-answers}
 use Rattle.controller.proofs.SettleAnswerLaws.{settles-answers}
 use Rattle.controller.proofs.power_on.Statement.{statement}
@@ -49,7 +55,11 @@ powered : (s : ℕ) (r : PowerOn) → r ≡ heldPower s
     × (Journal
     × (JournalAnswers
     × (EntryWitness
-    × (Watch × (Settles × (SettlesAnswers × (BlockWitness × (CarryOn × (CarryAnswers × CarryWitness))))))))))))))
+    × (Watch
+    × (Settles
+    × (SettlesAnswers
+    × (BlockWitness
+    × (CarryOn × (CarryAnswers × (CarryWitness × (Returns × (ReturnsAnswers × ReturnWitness)))))))))))))))))
 powered s r e = (
   e,
   (
@@ -61,8 +71,11 @@ powered s r e = (
   ),
 )
   where
-    later : Settles × (SettlesAnswers × (BlockWitness × (CarryOn × (CarryAnswers × CarryWitness))))
-    later = (settled, (settles-answers, (blocks-answered, (carry-on, (carry-answers, carries-on)))))
+    named : Returns × (ReturnsAnswers × ReturnWitness)
+    named = (machine.returns, (returns-answers, returned))
+
+    later : Settles × (SettlesAnswers × (BlockWitness × (CarryOn × (CarryAnswers × (CarryWitness × (Returns × (ReturnsAnswers × ReturnWitness)))))))
+    later = (settled, (settles-answers, (blocks-answered, (carry-on, (carry-answers, (carries-on, named))))))
 
 is-bad-requires : tie.Need-is-bad-requires
 is-bad-requires c κs = search needs

@@ -21,7 +21,7 @@ joins w d e =
     let s = w .before .before .before .before in
     let f = w .before .before .prefix .given in
     sym (ap (λ (x : Number). joinOf x (s .args .c)) (f .1) ∙ ap (joinDigit (f .0 .0) (f .0 .1 .0))
-    (sym (w .read-digit .ensures) ∙ e))
+    (sym (w .read-digit .ensures .0) ∙ e))
 
 enum-told : tie.Need-enum-told
 enum-told c = search needs

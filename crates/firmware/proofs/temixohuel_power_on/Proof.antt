@@ -14,7 +14,8 @@ returns c =
     let entries = answers .1 .1 in
     let blocks = entries .1 .1 .1 .1 in
     let carries = blocks .1 .1 .1 in
-    (e .0, (e .1 .0, (answers .0, (entries .0, (blocks .0, carries .0)))))
+    let returned = carries .1 .1 .1 in
+    (e .0, (e .1 .0, (answers .0, (entries .0, (blocks .0, (carries .0, returned .0))))))
 
 pub temixohuel-power-on-spec : {M : Type 1} → statement M
 temixohuel-power-on-spec = tie.close (tie.spec power-on-requires returns)

@@ -16,7 +16,7 @@ returns : tie.Need-returns
 returns c = search needs
 
 returns-2 : tie.Need-returns-2
-returns-2 c = rw (c .before .before .ident .given .1) (c .is-ident .ensures)
+returns-2 c = rw (c .before .before .ident .given .1) (c .is-ident .ensures .0)
 
 pub is-ident-spec : {M : Type 1} → statement M
 is-ident-spec = tie.close (tie.spec enum-told enum-known-ident is-ident-requires returns returns-2)

@@ -76,7 +76,7 @@ returns-5 c =
     judged l (wrong-ident l (omega (arith, n)) (omega (arith, n))
     (was-true isLetter (t .before .is-letter .ensures) (t .before .before .char-at .ensures) (t .if3 .left))
     (was-true isSwitch (s .before .is-switch .ensures) (s .before .before .char-at2 .ensures) (s .if4 .left))
-    (was-false (λ (k : ℕ). isIdent (digitOf k)) (i .before .is-ident .ensures) (i .before .before .char-at3 .ensures)
+    (was-false (λ (k : ℕ). isIdent (digitOf k)) (i .before .is-ident .ensures .0) (i .before .before .char-at3 .ensures)
     (i .if5 .taken)))
 
 read-digits-requires : tie.Need-read-digits-requires
@@ -103,7 +103,7 @@ returns-6 c =
     judged l (then-digits l low high
     (was-true isLetter (t .before .is-letter .ensures) (t .before .before .char-at .ensures) (t .if3 .left))
     (was-true isSwitch (s .before .is-switch .ensures) (s .before .before .char-at2 .ensures) (s .if4 .left))
-    (was-true (λ (k : ℕ). isIdent (digitOf k)) (i .before .is-ident .ensures) (i .before .before .char-at3 .ensures)
+    (was-true (λ (k : ℕ). isIdent (digitOf k)) (i .before .is-ident .ensures .0) (i .before .before .char-at3 .ensures)
     (i .if5 .left))
     (cc n))
 

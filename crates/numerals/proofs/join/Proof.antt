@@ -16,7 +16,7 @@ joins w d e =
     let s = w .before .before .before .before in
     let f = w .before .before .before2 .given in
     sym (ap (λ (x : Spelled). joinOf (s .args .base) x (s .args .c)) (f .1)
-    ∙ ap (joinDigit (s .args .base) (f .0 .0)) (sym (w .read-digit .ensures) ∙ e))
+    ∙ ap (joinDigit (s .args .base) (f .0 .0)) (sym (w .read-digit .ensures .0) ∙ e))
 
 enum-told : tie.Need-enum-told
 enum-told c = search needs

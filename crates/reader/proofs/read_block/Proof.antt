@@ -79,7 +79,7 @@ returns-5 c =
     let a = e .before .before .before .before .before .args in
     promised (then-read (now (a .s)) (omega arith) (omega arith) (e .if3 .left)
     (i .before .before .ident-in .ensures) (i .before .is-ident .ensures) (i .if4 .left)
-    (d .ensures) (n .ensures) (c .switch-in .ensures))
+    (d .ensures .0) (n .ensures) (c .switch-in .ensures))
 
 pub read-block-spec : {M : Type 1} → statement M
 read-block-spec =

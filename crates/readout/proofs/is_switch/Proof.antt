@@ -16,13 +16,13 @@ enum-told-3 : tie.Need-enum-told-3
 enum-told-3 c = search needs
 
 returns : tie.Need-returns
-returns c = rw (← c .before .before .read-digit .ensures, c .enum-told .given .1)
+returns c = rw (← c .before .before .read-digit .ensures .0, c .enum-told .given .1)
 
 returns-2 : tie.Need-returns-2
-returns-2 c = rw (← c .before .before .read-digit .ensures, c .enum-told2 .given .1)
+returns-2 c = rw (← c .before .before .read-digit .ensures .0, c .enum-told2 .given .1)
 
 returns-3 : tie.Need-returns-3
-returns-3 c = rw (← c .before .before .read-digit .ensures, c .enum-told3 .given .1)
+returns-3 c = rw (← c .before .before .read-digit .ensures .0, c .enum-told3 .given .1)
 
 pub is-switch-spec : {M : Type 1} → statement M
 is-switch-spec =

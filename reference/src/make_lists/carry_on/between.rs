@@ -74,7 +74,7 @@ fn stored_starts_that_fail(text: &mut Text) {
 
 /// Lines: settings, readings and refused lines that leave the stopped move, each followed by a carry-on.
 const LEAVING: &str = "P08F4240|P0900FFF|P0A00000|P0B0|P0B1|P0C00FFF|P0C00000|Q09|Q49|Q0A|Q0B|Q4B|Q0D00000|Q0E00000|\
-    Q00|Q06|q00|q08000003|W0|W0ABCDEF|W4|P00|P000005|P0500005|P000000G|P0000005a|P0000005AA|P1000005|X0000005|P0900000|\
+    Q00|Q06|q00|q08000003|W0|W0ABCDEF|W4|P00|P000005|P0500005|P000000G|P0000005g|P0000005AA|P1000005|X0000005|P0900000|\
     P08F4241|Q081|Q482|Q085|Q08|Q0|Q0F|q0C|P0E00000";
 
 /// Paper 02, 6/14: only an accepted distance line and a start that takes effect end the right to carry on.
