@@ -74,6 +74,7 @@ unfolding masterOf sixOf numberOf before behind marks same common spell decimalO
 marked = record {
   silent = refl;
   identification = refl;
+  small = refl;
   no-line = refl;
   not-exact = refl;
 }
@@ -118,8 +119,10 @@ replies = record {
   inputs = refl;
   switch = refl;
   identification = refl;
+  small = refl;
   both = refl;
   no-block = refl;
+  small-digits = refl;
   sums = refl;
 }
 

@@ -35,6 +35,7 @@ pub record CommandRows : Type 0 where
 pub record MarkRows : Type 0 where
   pub silent : answerText (chars "silent stop") ≡ chars "Q4900000"
   pub identification : answerText (chars "stop as A") ≡ chars "Q0900000A"
+  pub small : answerText (chars "stop as a") ≡ chars "Q0900000a"
   pub no-line : answerText (chars "dwell 16384") ≡ chars "turned away by 19: no line has this value"
   pub not-exact : answerText (chars "speed 0.3") ≡ chars "turned away by 21: a figure is not exact or out of range"
 
@@ -80,9 +81,11 @@ pub record ReplyRows : Type 0 where
   pub inputs : answerText (chars "R0000012") ≡ chars "inputs 000012"
   pub switch : answerText (chars "SA281388") ≡ chars "travel 2 minus 5000 (switch A)"
   pub identification : answerText (chars "S02813887") ≡ chars "travel 2 minus 5000 (as 7)"
+  pub small : answerText (chars "U0000000a") ≡ chars "accepted (as a)"
   pub both : answerText (chars "UA00000EB")
       ≡ chars "turned away by 14: an axis is longer than the master (switch A) (as B)"
   pub no-block : answerText (chars "S0700000") ≡ chars "turned away by 20: this is no reply block"
+  pub small-digits : answerText (chars "s0000abca") ≡ chars "turned away by 20: this is no reply block"
   pub sums : answerText (chars "1 -1 0 0 0") ≡ chars "pulses 1 -1 0 0 0"
 
 -- What has no form.
