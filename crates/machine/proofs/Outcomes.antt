@@ -16,9 +16,7 @@ use Rattle.line.specs.declared.Judged.the-variants.{Accepted, Refused}
 use Rattle.line.specs.Fits.{JudgedFits}
 use Rattle.line.specs.Line.{silentOf, identOf, judgeOf}
 use Rattle.line.proofs.Fits.{judge-fits}
-use Rattle.receiver.specs.declared.Heard.{Heard}
-use Rattle.receiver.specs.declared.Heard.the-variants.{Character, Line}
-use Rattle.receiver.specs.Receiver.{Receipt, receive}
+use Rattle.receiver.specs.Receiver.{Receipt}
 use Rattle.machine.specs.State.{Machine}
 use Rattle.machine.specs.Commands.{number}
 use Rattle.machine.specs.Steps.{
@@ -32,25 +30,7 @@ use Rattle.machine.specs.Steps.{
   outcome,
 }
 
-module _ (m : Machine) (P : Outcome → Type 0) (left : P untaken) (joined : P gathered)
-    (away : (n : ℕ) (silent : Bool) (ident : Ident) → P (refused n silent ident))
-    (obeyed : (c : Command) (digits : ℕ) (silent : Bool) (ident : Ident) → number m c ≡ 0
-    → P (accepted c digits silent ident)) where
-  by-decided : (silent : Bool) (ident : Ident) (j : Judged) → P (decided m silent ident j)
-  by-decided silent ident (Refused n) = away n silent ident
-  by-decided silent ident (Accepted c digits) =
-      by-bool P (eqb (number m c) 0) _ _ (λ e. obeyed c digits silent ident (eqb-true (number m c) 0 e))
-      (λ e. away (number m c) silent ident)
-
-  by-heard : (h : Heard) → P (outcomeOf m h)
-  by-heard Character = joined
-  by-heard (Line silent ident j) = by-decided silent ident j
-
-  pub by-outcome : (b : ℕ) (buffer : List ℕ) → P (outcome m b buffer)
-  by-outcome b buffer =
-      by-bool P (ltb (length buffer) 120) _ _ (λ e. left) (λ e. by-heard (receive (m .line) b .heard))
-
--- The same, a line being that of the machine: one that is turned away has a number.
+-- A line has its own silence and identification, and one that is turned away a number.
 module _ (m : Machine) (P : Outcome → Type 0) (left : P untaken) (joined : P gathered)
     (away : (n : ℕ) → 0 < n → P (refused n (silentOf (m .line)) (identOf (m .line))))
     (obeyed : (c : Command) (digits : ℕ) → number m c ≡ 0
@@ -66,3 +46,13 @@ module _ (m : Machine) (P : Outcome → Type 0) (left : P untaken) (joined : P g
       by-bool P (ltb (length buffer) 120) _ _ (λ e. left)
       (λ e. by-bool (λ (r : Receipt). P (outcomeOf m (r .heard))) (eqb b 13) _ _
       (λ q. by-judged (judgeOf (m .line)) (judge-fits (m .line))) (λ q. joined))
+
+-- The same where these do not count.
+pub by-outcome : (m : Machine) (P : Outcome → Type 0) → P untaken → P gathered
+    → ((n : ℕ) (silent : Bool) (ident : Ident) → P (refused n silent ident))
+    → ((c : Command) (digits : ℕ) (silent : Bool) (ident : Ident) → number m c ≡ 0
+    → P (accepted c digits silent ident))
+    → (b : ℕ) (buffer : List ℕ) → P (outcome m b buffer)
+by-outcome m P left joined away obeyed =
+    by-line m P left joined (λ n h. away n (silentOf (m .line)) (identOf (m .line)))
+    (λ c digits e. obeyed c digits (silentOf (m .line)) (identOf (m .line)) e)
