@@ -1,6 +1,11 @@
 //! Counters of the host end's lines and of what they were answered.
 
+mod identified;
+
+use crate::batch::pairs;
 use crate::counted::{Counted, Named};
+use crate::identification::AtHost;
+use crate::vector::in_other_case;
 use std::fmt;
 
 /// How many lines have each letter, and how many answers begin with each word of two characters.
@@ -11,6 +16,7 @@ pub struct Answers {
     numbers: Named<String>,
     /// Those about a carry-on that are not turned away.
     carry_ons: Named<&'static str>,
+    pub identified: AtHost,
 }
 
 /// A number of the papers at the front of the answers to W, B, F, A and J, `--` for the end of a journal, or the
@@ -32,13 +38,22 @@ fn carry_on(line: &[u8], answer: &str) -> Option<&'static str> {
 }
 
 impl Answers {
-    pub fn count(&mut self, line: &[u8], answer: &str) {
+    /// The counts of lines and of their answers.
+    pub fn of(lines: &[Vec<u8>], answers: &[String]) -> Answers {
+        let mut seen = Answers::default();
+        lines.iter().zip(answers).for_each(|(line, answer)| seen.count(line, answer));
+        seen.identified.other_case(pairs(lines, in_other_case));
+        seen
+    }
+
+    fn count(&mut self, line: &[u8], answer: &str) {
         self.lines += 1;
         self.letters.count(line[0] as char);
         if let Some(number) = number_of(line, answer) {
             self.numbers.count(number);
         }
         carry_on(line, answer).into_iter().for_each(|what| self.carry_ons.count(what));
+        identified::count(&mut self.identified, line, answer);
     }
 }
 
@@ -48,6 +63,7 @@ impl Counted for Answers {
         self.letters.add(&more.letters);
         self.numbers.add(&more.numbers);
         self.carry_ons.add(&more.carry_ons);
+        self.identified.add(&more.identified);
     }
 }
 
@@ -56,6 +72,7 @@ impl fmt::Display for Answers {
         writeln!(f, "  lines: {}", self.letters.listed())?;
         let numbers = self.numbers.listed();
         writeln!(f, "  numbers of W, B, F, A and J, ends of journals, and question marks: {numbers}")?;
-        writeln!(f, "  of carry-ons: {}", self.carry_ons.listed())
+        writeln!(f, "  of carry-ons: {}", self.carry_ons.listed())?;
+        write!(f, "{}", self.identified)
     }
 }

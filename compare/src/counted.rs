@@ -22,6 +22,15 @@ pub fn listed<K: Display>(counts: impl Iterator<Item = (K, u64)>) -> String {
     all.join(", ")
 }
 
+/// A line of the names whose counts are 0; nothing where none is.
+pub fn not_met<K: Display>(counts: impl Iterator<Item = (K, u64)>) -> String {
+    let names: Vec<String> = counts.filter(|(_, count)| *count == 0).map(|(name, _)| name.to_string()).collect();
+    match names.as_slice() {
+        [] => String::new(),
+        names => format!("  NOT MET: {}\n", names.join(", ")),
+    }
+}
+
 /// Adds each count to the sum in its place.
 pub fn add_each<const N: usize>(sums: &mut [u64; N], more: &[u64; N]) {
     for (sum, count) in sums.iter_mut().zip(more) {

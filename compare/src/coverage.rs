@@ -2,12 +2,14 @@
 
 mod blocks;
 mod carried;
+mod identified;
 mod marks;
 mod moves;
 mod trials;
 
 pub use blocks::Blocks;
 pub use carried::{Carried, Found, Nothing, Since, SINCE};
+pub use identified::{Identified, OtherCase};
 pub use marks::Marks;
 pub use moves::{Cause, Moves};
 pub use trials::{Met, Trials};
@@ -32,6 +34,7 @@ pub struct Coverage {
     pub moves: Moves,
     pub carried: Carried,
     pub blocks: Blocks,
+    pub identified: Identified,
     pub trials: Trials,
     pub switches: Marks,
     /// Lengths of buffers lent to bytes, and to ticks.
@@ -63,6 +66,7 @@ impl Counted for Coverage {
         self.moves.add(&more.moves);
         self.carried.add(&more.carried);
         self.blocks.add(&more.blocks);
+        self.identified.add(&more.identified);
         self.trials.add(&more.trials);
         self.switches.join(&more.switches);
         self.lent.join(&more.lent);
@@ -79,7 +83,7 @@ impl fmt::Display for Coverage {
         writeln!(f, "  lines {}, {bytes}", g(self.lines))?;
         let [switches, lent, to_ticks] = [&self.switches, &self.lent, &self.lent_to_ticks].map(Marks::count);
         writeln!(f, "  switches {switches} of 256, lengths of buffers lent to bytes {lent}, to ticks {to_ticks}")?;
-        write!(f, "{}{}{}", self.blocks, self.moves, self.carried)?;
+        write!(f, "{}{}{}{}", self.blocks, self.identified, self.moves, self.carried)?;
         let numbers = (1..=LAST_IN_ROW).chain([LAST_NUMBER]).map(|number| (format!("{number}:"), self.numbers[number]));
         writeln!(f, "  numbers: {}", listed(numbers))?;
         write!(f, "{}", self.trials)

@@ -14,6 +14,7 @@ pub mod counted;
 pub mod coverage;
 pub mod digest;
 pub mod hosted;
+pub mod identification;
 pub mod journal;
 pub mod line;
 pub mod list;

@@ -6,8 +6,9 @@ mod spelling;
 
 pub use damage::damaged;
 pub use out_of_range::out_of_range;
-pub use spelling::spelled;
+pub use spelling::{are_in_two_cases, identified, in_two_cases, spelled};
 
+use crate::identification::near;
 use crate::random::Random;
 
 /// The digits of a line.
@@ -99,15 +100,13 @@ pub fn inputs() -> Order {
 }
 
 /// A W line that is turned away: one to five digits, at times with a character behind them that is no digit, or six
-/// and behind them no identification.
+/// and behind them what is no identification.
 pub fn refused_w(random: &mut Random) -> Vec<u8> {
     let count = random.between(1, SIX as u32) as usize;
     let mut line = vec![b'W', random.pick(b"004")];
     line.extend((0..count).map(|_| random.digit()));
-    if count == SIX {
-        line.push(random.pick(b"afGg:@`"));
-    } else if random.chance(30) {
-        line.push(random.pick(b"Gg:@`"));
+    if count == SIX || random.chance(30) {
+        line.push(near(random));
     }
     line
 }

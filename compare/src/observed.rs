@@ -3,16 +3,17 @@
 mod carried;
 mod carrying;
 mod followed;
+mod moved;
+mod paired;
 mod tried;
 
 pub use carrying::{Carrying, Directed};
 
-use crate::bits::{BLOCKED, BY_SENSOR, HELD, MOVING, STOPPED};
 use crate::call::LONGEST_LENT;
-use crate::coverage::{Cause, Coverage};
+use crate::coverage::Coverage;
 use crate::operator::WATCH_OFF;
 use followed::Followed;
-use reference::journal::Entry;
+use paired::Paired;
 use reference::{front, ByteAnswer, Machine};
 
 /// A reference machine whose answers are counted.
@@ -26,6 +27,7 @@ pub struct Observed {
     line: Vec<u8>,
     followed: Followed,
     carrying: Carrying,
+    paired: Paired,
 }
 
 impl Observed {
@@ -35,7 +37,8 @@ impl Observed {
         seen.number(number);
         seen.switches.mark(switch);
         let (status, followed, carrying) = (machine.status(), Followed::power_on(), Carrying::power_on());
-        Observed { machine, seen, status, stop_begun: false, line: Vec::new(), followed, carrying }
+        let (line, paired) = (Vec::new(), Paired::default());
+        Observed { machine, seen, status, stop_begun: false, line, followed, carrying, paired }
     }
 
     /// As the bench programs begin: the host's first line was accepted, and is not counted (paper 02, 2/14).
@@ -69,6 +72,7 @@ impl Observed {
         self.seen.bytes += 1;
         self.seen.reply_bytes += answer.len as u64;
         self.seen.blocks.byte(front(lent, answer.len));
+        self.seen.identified.reply(front(lent, answer.len), answer.number);
         self.seen.lent.mark(lent.len().min(LONGEST_LENT) as u8);
         self.seen.number(answer.number);
         if answer.number == 2 {
@@ -86,11 +90,20 @@ impl Observed {
     fn end_line(&mut self, number: u8) {
         self.seen.lines += 1;
         let line = std::mem::take(&mut self.line);
+        self.identify_line(&line, number);
         let carried = self.carry_line(&line, number);
         if number == 0 {
             self.followed.accepted(&line, self.status, &mut self.seen.blocks);
         }
         self.follow_line(carried);
+    }
+
+    /// What a line, with its number, tells about identifications.
+    fn identify_line(&mut self, line: &[u8], number: u8) {
+        self.paired.follow(line, number, self.followed.settling, &mut self.seen.identified);
+        if number == 7 {
+            self.seen.identified.no_digit(line);
+        }
     }
 
     /// A call of ticks with one input word, all lent one buffer.
@@ -106,6 +119,7 @@ impl Observed {
         self.seen.ticks += 1;
         self.seen.reply_bytes += answer.len as u64;
         self.seen.blocks.tick(&answer, word, lent);
+        self.seen.identified.tick(front(lent, answer.len));
         self.seen.lent_to_ticks.mark(lent.len().min(LONGEST_LENT) as u8);
         self.seen.moves.pulses += answer.pulses.iter().any(|&pulse| pulse != 0) as u64;
         if answer.number != 0 {
@@ -114,61 +128,6 @@ impl Observed {
         }
         self.follow_tick(answer.entry);
         self.followed.ticked(answer.len, self.status);
-    }
-
-    fn begin_move(&mut self) {
-        self.seen.moves.starts += 1;
-        self.carrying.begin();
-        self.stop_begun = false;
-    }
-
-    /// What a line has led to, and whether it has carried a move on.
-    fn follow_line(&mut self, carried: bool) {
-        let before = std::mem::replace(&mut self.status, self.machine.status());
-        if carried {
-            self.seen.moves.carry_ons += 1;
-            self.stop_begun = false;
-        } else if self.status & !before & MOVING != 0 {
-            self.begin_move();
-        }
-        if self.status & !before & STOPPED != 0 {
-            self.seen.moves.cause(Cause::Order);
-            self.stop_begun = true;
-        }
-    }
-
-    /// A stored start shows by bit 1, or, where the move ends in its first tick, by the entry.
-    fn follow_tick(&mut self, entry: Option<Entry>) {
-        let before = std::mem::replace(&mut self.status, self.machine.status());
-        let started = before & MOVING == 0 && (self.status & MOVING != 0 || entry.is_some());
-        if started {
-            self.begin_move();
-            self.seen.moves.stored_starts += 1;
-        }
-        if before & MOVING == 0 && !started {
-            return;
-        }
-        self.follow_causes(if started { before & HELD } else { before });
-        if let Some(entry) = entry {
-            self.seen.moves.end(&entry, self.stop_begun);
-            self.end_carried(&entry);
-        }
-    }
-
-    /// Bits 3, 5 and 6 rise as a cause meets the move; a tick's bit 3 is a limit where bit 4 shows one, else the watch.
-    fn follow_causes(&mut self, before: u32) {
-        let risen = self.status & !before;
-        if risen & STOPPED != 0 {
-            let watch = if self.followed.watch_set { Cause::Watch } else { Cause::PowerOnWatch };
-            self.seen.moves.cause(if self.status & BLOCKED != 0 { Cause::Limit } else { watch });
-        }
-        if risen & HELD != 0 {
-            self.seen.moves.cause(Cause::Emergency);
-        }
-        if risen & BY_SENSOR != 0 {
-            self.seen.moves.cause(Cause::Sensor);
-        }
-        self.stop_begun |= self.status & (STOPPED | HELD | BY_SENSOR) != 0;
     }
 }
 
@@ -195,5 +154,29 @@ mod tests {
         assert!(told.contains("blocks from bytes 2, from ticks 1, of these 0 with an entry"), "{told}");
         assert!(told.contains("ask for a block 3, replaced before it 2, cut off 0\n"), "{told}");
         assert!(told.contains("turned away by 2 2, of these 0 with an over-large word, by 3 0\n"), "{told}");
+    }
+
+    #[test]
+    fn identifications_are_counted_by_where_they_come_back() {
+        let mut observed = Observed::power_on(0);
+        let lines = [("q0800000a", 0), ("Q0600000A", 0), ("P0900000b", 0), ("P00000015", 0), ("P0000001g", 0)];
+        let near = [("P000000gG", 0), ("W0ABCDEFA", 1), ("W0ABCDEFa", 2_500), ("Q06", 0), ("W0abcdefa", 2_500)];
+        let pair = [("W0abcdefA", 2_500), ("W4ABCDEFa", 2_500), ("W0ABCDEFA", 1)];
+        for (line, ticks) in lines.into_iter().chain(near).chain(pair) {
+            send(&mut observed, line);
+            observed.ticks(ticks, 0, &mut [0; 120]);
+        }
+        let told = observed.into_seen().identified.to_string();
+        for part in [
+            "in replies: small letters 2, capitals 1, numerals 1, characters 4 of 22;",
+            "; of twelve blocks small letters 1\n",
+            "turn away: small letters 1, capitals 0, numerals 0, characters 1 of 22\n",
+            "from ticks: small letters 2, capitals 1, numerals 0, characters 2 of 22\n",
+            "ninth character alone 1, by 1 characters\n",
+            "in the other case 2; W lines before the block of such a one 1, behind it 1\n",
+            "  NOT MET: 0 in replies, 1 in replies,",
+        ] {
+            assert!(told.contains(part), "{part}\n{told}");
+        }
     }
 }

@@ -10,6 +10,7 @@ use reference::machine::INPUT_WORD_END;
 
 mod at_rest;
 mod carry_on;
+mod cases;
 mod in_dwell;
 mod settings;
 mod settle;

@@ -60,7 +60,7 @@ impl Random {
     /// 1 to `most`, where numbers of every length in bits are alike likely.
     pub fn spread(&mut self, most: u32) -> u32 {
         let low = 1 << self.below(u32::BITS - most.leading_zeros());
-        self.between(low, most.min(2 * low - 1))
+        self.between(low, most.min(low - 1 + low))
     }
 
     /// A digit of base 16, a letter as a capital.

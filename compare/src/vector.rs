@@ -1,9 +1,12 @@
 //! Lines of `docs/VECTORS.md` for the host end, with fields at their bounds, near them and anywhere.
 
 pub mod block;
+mod cases;
 mod command;
 mod figure;
 mod journal;
+
+pub use cases::in_other_case;
 
 use crate::random::Random;
 use crate::touch::Touch;

@@ -9,7 +9,7 @@ use std::io::BufReader;
 
 fn lines_of(batch: Batch) -> Vec<Vec<u8>> {
     let mut random = Random::of_item(batch.seed, part::WORDS, batch.index);
-    (0..batch.lines).map(|_| words::line(&mut random)).collect()
+    batch::lines(batch, &mut random, words::line, words::in_other_case)
 }
 
 /// The text of a batch. In every second one the last line lacks its line feed, unless it is empty and so would be none.
@@ -29,7 +29,22 @@ pub fn compare(places: &Places, batch: Batch, name: &str) -> Result<Told, String
     let run = |text, output: &mut Vec<u8>| reference::desk::run(BufReader::new(text), output);
     let reference = program::reference_output(run, &text);
     let answers = batch::answers(batch, &lines, &proved, &reference)?;
-    let mut seen = Told::default();
-    lines.iter().zip(&answers).for_each(|(line, answer)| seen.count(line, answer));
-    Ok(seen)
+    Ok(Told::of(&lines, &answers))
+}
+
+#[cfg(test)]
+mod tests {
+    use super::*;
+    use crate::counted::Counted;
+
+    #[test]
+    fn identifications_of_every_kind_come() {
+        let mut seen = Told::default();
+        for index in 0..2 {
+            let lines = lines_of(Batch { seed: 1, index, lines: 10_000 });
+            let answers = lines.iter().map(|line| reference::desk::answer(line).trim_end_matches('\n').to_string());
+            seen.add(&Told::of(&lines, &answers.collect::<Vec<_>>()));
+        }
+        assert_eq!(seen.identified.not_met(), "", "{}", seen.identified);
+    }
 }

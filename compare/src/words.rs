@@ -13,6 +13,7 @@ mod wish;
 
 pub use long::lengthened;
 pub use number::{decimal, hexadecimal, spelled, spelled_in_16};
+pub use wish::with_identification;
 
 use crate::random::Random;
 use crate::touch::Touch;
@@ -56,6 +57,11 @@ fn form(random: &mut Random) -> String {
     } else {
         program::form(random)
     }
+}
+
+/// The same words or the same block with the identification in the other case, where it is a letter.
+pub fn in_other_case(line: &[u8]) -> Option<Vec<u8>> {
+    wish::in_other_case(line).or_else(|| reply::in_other_case(line))
 }
 
 /// One line without its line feed. Each prints one line.
@@ -105,7 +111,7 @@ mod tests {
         let fronts =
             ["accepted\n", "travel ", "status ", "position ", "inputs ", "pulses ", "master 4", "T ", "D ", "P0B0\n"];
         assert!(fronts.iter().all(|front| comes(front)));
-        assert!(["Q0C00000\n", "Q4C00000\n", "Q0C00000F\n"].iter().all(|front| comes(front)));
+        assert!(["Q0C00000\n", "Q4C00000\n", "Q0C00000F\n", "Q0C00000f\n"].iter().all(|front| comes(front)));
         assert!(FORMS.iter().all(|(_, form)| comes(&format!("? {form}\n"))));
     }
 }

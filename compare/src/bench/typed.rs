@@ -12,6 +12,17 @@ pub struct Typed {
     text: Vec<u8>,
 }
 
+/// Lines that are parted by 0D.
+const PARTED: [&[u8]; 7] = [
+    b"Q06\rQ0",
+    b"q08\r",
+    b"\r\r",
+    b"P0B0\rT 1 000000",
+    b"W0\rW0ABCDEF3",
+    b"W0abcdefa\rW0ABCDEFA",
+    b"Q0600000F\rQ0600000f\rQ0600000g",
+];
+
 impl Typed {
     /// The bench programs have switch 0, and have sent the host's first line before any text.
     pub fn new(ticks: u32) -> Typed {
@@ -94,7 +105,7 @@ impl Bench for Typed {
         if random.chance(70) {
             self.odd_tick_line(random);
         } else {
-            let line = random.pick(&[b"Q06\rQ0".as_slice(), b"q08\r", b"\r\r", b"P0B0\rT 1 000000", b"W0\rW0ABCDEF3"]);
+            let line = random.pick(&PARTED);
             self.send(random, line);
         }
     }

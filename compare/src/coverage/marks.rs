@@ -15,6 +15,10 @@ impl Marks {
         self.0[value as usize] = true;
     }
 
+    pub fn has(&self, value: u8) -> bool {
+        self.0[value as usize]
+    }
+
     /// The marks of another run join these.
     pub fn join(&mut self, more: &Marks) {
         for (mark, other) in self.0.iter_mut().zip(more.0) {

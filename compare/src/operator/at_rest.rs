@@ -57,6 +57,8 @@ impl Operator {
             70..=71 => {
                 self.carry_on(bench);
             }
+            72..=74 => self.two_cases(bench),
+            75..=76 => self.settle_in_two_cases(bench),
             _ => self.start_move(bench),
         }
         self.run_some(bench, 20);

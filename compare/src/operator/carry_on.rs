@@ -2,6 +2,7 @@
 
 use super::{any_axis, Operator};
 use crate::bench::Bench;
+use crate::identification::near;
 use crate::line::{self, Order};
 use reference::command::LONGEST;
 use reference::machine::TICKS_PER_MS;
@@ -139,13 +140,13 @@ impl Operator {
         bench.send(&mut self.random, &line);
     }
 
-    /// One that lost its last digits, or with a small letter for an identification.
+    /// One that lost its last digits, or with what is no identification behind them.
     fn cut_distance<B: Bench>(&mut self, bench: &mut B) {
         let order = self.distance_again(bench);
         let mut line = line::spelled(&mut self.random, &order);
         if self.random.chance(30) {
             line.truncate(8);
-            line.push(b'a');
+            line.push(near(&mut self.random));
         } else {
             line.truncate(self.random.between(3, 7) as usize);
         }

@@ -11,7 +11,7 @@ impl Operator {
             self.go_on_in_dwell(bench);
             return;
         }
-        match self.random.below(21) {
+        match self.random.below(22) {
             0..=8 => self.store_start(bench),
             9..=11 => self.start_move(bench),
             12 => {
@@ -23,6 +23,7 @@ impl Operator {
             16 => bench.oddity(&mut self.random),
             17 => self.settle(bench),
             18 => self.settle_beside_start(bench),
+            19 => self.two_cases(bench),
             _ => {}
         }
         self.run_dwell(bench);

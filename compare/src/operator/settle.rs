@@ -4,11 +4,11 @@ use super::Operator;
 use crate::bench::Bench;
 use crate::bits::{BUSY, MOVING};
 use crate::line;
-use reference::machine::LEAST_REPLY_BUFFER;
+use reference::machine::{INPUT_WORD_END, LEAST_REPLY_BUFFER};
 use reference::Machine;
 
 /// The block of a W line comes in this tick after it (paper 02, 3/14).
-const SETTLED: u32 = 2_500;
+pub(super) const SETTLED: u32 = 2_500;
 
 /// How many ticks an operator looks ahead.
 const AHEAD: u32 = 20_000;
@@ -24,12 +24,18 @@ fn next_change(machine: &Machine, word: u32) -> Option<u32> {
 }
 
 impl Operator {
-    /// A W line in one of its forms, some of them silent.
+    /// A W line in one of its forms, some of them silent, many with an identification.
     fn ask_inputs<B: Bench>(&mut self, bench: &mut B) {
-        if self.random.chance(50) {
-            self.order(bench, line::inputs());
-        } else {
-            self.set_outputs(bench);
+        match self.random.below(10) {
+            0..=3 => {
+                self.order(bench, line::inputs());
+            }
+            4..=5 => self.set_outputs(bench),
+            _ => {
+                let outputs = line::outputs(self.random.below(INPUT_WORD_END));
+                let line = line::identified(&mut self.random, &outputs);
+                bench.send(&mut self.random, &line);
+            }
         }
     }
 

@@ -25,6 +25,8 @@ impl Operator {
             32..=43 if !self.leave_whole => self.stop(bench),
             44 => self.settle(bench),
             45..=47 => self.settle_beside(bench),
+            48..=49 => self.two_cases(bench),
+            50 => self.settle_in_two_cases(bench),
             _ => {}
         }
         if self.patience == 0 {

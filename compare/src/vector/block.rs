@@ -1,6 +1,7 @@
-//! `B`: reply blocks in every form, and damaged by one character.
+//! `B`: reply blocks in every form, damaged by one character, and with a small letter where capitals stay.
 
 use super::near;
+use crate::identification::{mostly, small_letter, PLACES};
 use crate::random::Random;
 use crate::touch::Touch;
 use reference::command::ON_SETTING_BITS;
@@ -38,9 +39,21 @@ pub fn block(random: &mut Random) -> Vec<u8> {
     let mut block = vec![letter, random.digit()];
     block.extend(format!("{number:06X}").bytes());
     if random.chance(50) {
-        block.push(random.digit());
+        block.push(mostly(random));
     }
     block.push(b'\r');
+    block
+}
+
+/// A small letter as switch digit or among the six digits: mostly a capital made small, so that nothing else is wrong.
+pub fn with_small_digit(random: &mut Random, mut block: Vec<u8>) -> Vec<u8> {
+    let capitals: Vec<usize> = PLACES.filter(|&place| block[place].is_ascii_uppercase()).collect();
+    if capitals.is_empty() || random.chance(30) {
+        let place = random.between(PLACES.start as u32, PLACES.end as u32 - 1) as usize;
+        block[place] = small_letter(random);
+    } else {
+        block[random.pick(&capitals)].make_ascii_lowercase();
+    }
     block
 }
 
@@ -65,11 +78,19 @@ fn noise(random: &mut Random) -> Vec<u8> {
     (0..length).map(|_| random.below(256) as u8).collect()
 }
 
-pub fn line(random: &mut Random) -> String {
-    let mut bytes = if random.chance(97) { block(random) } else { noise(random) };
-    if !bytes.is_empty() && random.chance(40) {
-        damage(random, &mut bytes);
+/// A block, whole, with a small digit or damaged.
+fn spelled(random: &mut Random) -> Vec<u8> {
+    let mut block = block(random);
+    match random.below(100) {
+        0..=9 => return with_small_digit(random, block),
+        10..=44 => damage(random, &mut block),
+        _ => {}
     }
+    block
+}
+
+pub fn line(random: &mut Random) -> String {
+    let mut bytes = if random.chance(97) { spelled(random) } else { noise(random) };
     bytes.truncate(MOST_READER_BYTES);
     let spelled: Vec<String> = bytes.iter().map(|byte| format!("{byte:02X}")).collect();
     format!("B {}", spelled.concat())

@@ -1,6 +1,7 @@
 //! `W`: commands with their fields, line buffers and identifications.
 
 use super::near;
+use crate::identification;
 use crate::random::Random;
 use reference::command::{FASTEST, HIGHEST_POLARITY, LONGEST, LONGEST_DWELL, ON_SETTING_BITS, STEEPEST};
 use reference::machine::INPUT_WORD_END;
@@ -39,12 +40,15 @@ fn value(random: &mut Random, command: u32) -> u32 {
     }
 }
 
+/// None, mostly one of the 22 characters, or any other byte, mostly next to one.
 fn identification(random: &mut Random) -> String {
-    match random.below(10) {
-        0..=4 => "--".into(),
-        5..=8 => format!("{:02X}", random.digit()),
-        _ => format!("{:02X}", random.below(256)),
-    }
+    let character = match random.below(20) {
+        0..=8 => return "--".into(),
+        9..=17 => identification::identification(random),
+        18 => identification::near(random),
+        _ => random.below(256) as u8,
+    };
+    format!("{character:02X}")
 }
 
 /// Mostly the least length that is taken.

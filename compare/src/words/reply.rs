@@ -1,6 +1,7 @@
-//! Reply blocks in every form, and damaged by one character.
+//! Reply blocks in every form, damaged by one character, and with a small letter where capitals stay.
 
 use super::touched;
+use crate::identification::{mostly, other_case};
 use crate::random::Random;
 use crate::vector::block;
 use reference::command::ON_SETTING_BITS;
@@ -20,13 +21,13 @@ fn sent(random: &mut Random) -> (char, u32) {
     }
 }
 
-/// A block that the controller may send, but for an identification with 4 to 7 and a switch C.
+/// A block that the controller may send, but for an identification with 4 to 7 or that is none, and a switch C.
 fn whole(random: &mut Random) -> Vec<u8> {
     let (letter, digits) = sent(random);
     let switch = if random.chance(40) { '0' } else { random.digit() as char };
     let mut line = format!("{letter}{switch}{digits:06X}").into_bytes();
     if random.chance(30) {
-        line.push(random.digit());
+        line.push(mostly(random));
     }
     line
 }
@@ -43,9 +44,19 @@ fn of_any_fields(random: &mut Random) -> Vec<u8> {
 /// A block, the line feed in the place of its 0D.
 pub fn line(random: &mut Random) -> Vec<u8> {
     let line = if random.chance(50) { whole(random) } else { of_any_fields(random) };
-    if random.chance(25) {
-        touched(random, line)
-    } else {
-        line
+    match random.below(100) {
+        0..=23 => touched(random, line),
+        24..=32 => block::with_small_digit(random, line),
+        _ => line,
+    }
+}
+
+/// The same block with the identification in the other case, where it is a letter.
+pub fn in_other_case(line: &[u8]) -> Option<Vec<u8>> {
+    match line {
+        [block @ .., identification] if block.len() == 8 && b"USsR".contains(&block[0]) => {
+            Some([block, &[other_case(*identification)?]].concat())
+        }
+        _ => None,
     }
 }

@@ -1,19 +1,23 @@
 //! `silent ` before a form and ` as ` with an identification behind it, good and bad.
 
 use super::any_byte;
+use crate::identification::{identification, near, other_case};
 use crate::random::Random;
 
 /// What is near `silent ` and is not, or is it twice.
 const NEAR_SILENT: [&str; 8] =
     ["Silent ", "SILENT ", "silent", "silent  ", "silent silent ", " silent ", "silent\t", "silnt "];
 
-/// What is near an identification and is none, or is one twice.
-const NEAR_AS: [&str; 12] = [
+/// What is near ` as ` with an identification and is none, or is one twice.
+const NEAR_AS: [&str; 15] = [
     " as",
     " as ",
     " as  ",
     " as AB",
+    " as ab",
+    " as aA",
     " as A ",
+    " as a ",
     "  as A",
     " as  A",
     " asA",
@@ -23,8 +27,11 @@ const NEAR_AS: [&str; 12] = [
     " silent",
 ];
 
-/// Characters beside the good ones.
-const NEAR_DIGITS: &[u8] = b"abcdefgG/:@`zZ ";
+/// Other characters that are no identification.
+const OTHERS: &[u8] = b"zZoOlI \0";
+
+/// What stands before the identification.
+const AS: &[u8] = b" as ";
 
 fn before(random: &mut Random) -> &'static str {
     match random.below(100) {
@@ -36,13 +43,27 @@ fn before(random: &mut Random) -> &'static str {
 
 fn behind(random: &mut Random) -> Vec<u8> {
     let character = match random.below(100) {
-        0..=19 => random.digit(),
-        20..=21 => random.pick(NEAR_DIGITS),
-        22 => any_byte(random),
-        23..=24 => return random.pick(&NEAR_AS).into(),
+        0..=21 => identification(random),
+        22..=23 => near(random),
+        24 => random.pick(OTHERS),
+        25 => any_byte(random),
+        26..=27 => return random.pick(&NEAR_AS).into(),
         _ => return Vec::new(),
     };
-    [b" as ", &[character][..]].concat()
+    [AS, &[character][..]].concat()
+}
+
+/// Words with the character behind ` as ` another one.
+pub fn with_identification(line: &[u8], other: impl Fn(u8) -> Option<u8>) -> Option<Vec<u8>> {
+    match line.split_last() {
+        Some((&character, front)) if front.ends_with(AS) => Some([front, &[other(character)?]].concat()),
+        _ => None,
+    }
+}
+
+/// The same words with the identification in the other case, where it is a letter.
+pub fn in_other_case(line: &[u8]) -> Option<Vec<u8>> {
+    with_identification(line, other_case)
 }
 
 /// A form with what stands before it and behind it.

@@ -13,7 +13,7 @@ use Rattle.digits.specs.declared.Ident.the-variants.{Given}
 use Rattle.block.specs.Block.{blockOf, rowBlock, rowOf, Blocks}
 use Rattle.block.proofs.Blocks.{length-row}
 
-block-ninth : (letter switch n c : ℕ)
+pub block-ninth : (letter switch n c : ℕ)
     → getD (blockOf (record { letter = letter; switch = switch; number = n; ident = Given c })) 8 0 ≡ c
 unfolding blockOf sixOf
 block-ninth letter switch n c = refl

@@ -1,16 +1,19 @@
 -- What the writer promises of every request and of every line: the trip of lines and its converse. Assumes nothing.
 use Prim.Native.Nat.{ℕ, zero, suc, _-_, _≤_}
 use native.Mathlib.Omega.{arith}
-use mathlib.Core.Bool.{Bool, true, false, cond, not}
+use mathlib.Core.Bool.{Bool, true, false, cond, not, false≢true}
 use mathlib.Core.List.{List, [], _∷_}
 use mathlib.Core.Path.{_≡_, refl, sym, ap, _∙_}
 use borrow.Author.Tests.{le-ltb}
 use lib.Dec.{ltb}
-use lib.ListN.{length}
+use lib.ListN.{length, getD}
+use Rattle.laws.proofs.Tests.{both}
 use Rattle.digits.specs.Characters.{digitCharacters, isOne}
 use Rattle.digits.specs.declared.Ident.{Ident}
 use Rattle.digits.specs.declared.Ident.the-variants.{Given}
 use Rattle.digits.proofs.CharacterLaws.{one-to-one}
+use Rattle.block.proofs.Blocks.{block-given}
+use Rattle.block.proofs.Named.{block-ninth}
 use Rattle.line.specs.declared.command.Command.{Command}
 use Rattle.line.specs.declared.Judged.{Judged}
 use Rattle.line.specs.declared.Judged.the-variants.{Accepted}
@@ -20,7 +23,20 @@ use Rattle.line.specs.Line.{silentOf, identOf, judgeOf}
 use Rattle.receiver.specs.declared.Heard.{Heard}
 use Rattle.receiver.specs.declared.Heard.the-variants.{Character, Line}
 use Rattle.host.specs.declared.Request.{Request}
-use Rattle.host.specs.Writer.{digitsOf, hasLine, lineOf, line, refused, writtenOf}
+use Rattle.host.specs.Writer.{
+  letterOf,
+  digitsOf,
+  identFits,
+  isAbsent,
+  hasLine,
+  switchOf,
+  queryOf,
+  fullOf,
+  lineOf,
+  line,
+  refused,
+  writtenOf,
+}
 use Rattle.host.specs.RoundTrip.{heardAll, endedAfter, heardAs, requestIn, LineTrip, Asked, LineBack}
 use Rattle.host.proofs.JudgeLaws.{accepted-fits, accepted-named}
 use Rattle.host.proofs.Lines.{request-lined}
@@ -54,6 +70,25 @@ has-named : (silent : Bool) (c : Command) (x : ℕ) → fits c ≡ true → isQu
     → hasLine (record { silent = silent; command = c; ident = Given x }) ≡ isOne x digitCharacters
 has-named silent c x f q = rw (f, q) (one-to-one .digits x)
 
+-- A line with an identification has ten bytes, that character before its 0D: no query has one.
+pub ninth-of : (r : Request) (x : ℕ) → hasLine r ≡ true → r .ident ≡ Given x
+    → (length (lineOf r) ≡ 10) × (getD (lineOf r) 8 0 ≡ x)
+unfolding lineOf
+ninth-of r x e i = when (isQuery (r .command)) (both (fits (r .command)) _ e .1)
+  where
+    full : Ident → List ℕ
+    full ident = fullOf (r .silent) (letterOf (r .command)) (digitsOf (r .command)) ident
+
+    when : (q : Bool) → cond q (isAbsent (r .ident)) (identFits (r .ident)) ≡ true
+        → (length (cond q (queryOf (r .silent)) (full (r .ident))) ≡ 10)
+        × (getD (cond q (queryOf (r .silent)) (full (r .ident))) 8 0 ≡ x)
+    when true f = absurd (false≢true (ap isAbsent (sym i) ∙ f))
+    when false f = (
+      block-given _ x i,
+      ap (λ (y : Ident). getD (full y) 8 0) i
+          ∙ block-ninth (letterOf (r .command)) (switchOf (r .silent)) (digitsOf (r .command)) x,
+    )
+
 -- What is heard of a line is its request.
 two-lines : (r q : Request) → hasLine r ≡ true → hasLine q ≡ true → lineOf r ≡ lineOf q → r ≡ q
 two-lines r q f g e =
@@ -74,6 +109,7 @@ line-trip = record {
   heard = round-trip;
   obeys = machine-trip;
   named = has-named;
+  ninth = λ r x e i. ninth-of r x e i .1;
   apart = two-lines;
 }
 

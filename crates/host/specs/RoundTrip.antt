@@ -5,7 +5,7 @@ use Prim.Native.Nat.{ℕ, zero, suc, _-_, _≤_, _<_}
 use mathlib.Core.Bool.{Bool, true, false}
 use mathlib.Core.List.{List, [], _∷_, _++_}
 use mathlib.Core.Path.{_≡_}
-use lib.ListN.{length}
+use lib.ListN.{length, getD}
 use Rattle.digits.specs.Digits.{endByte}
 use Rattle.digits.specs.Characters.{digitCharacters, isOne}
 use Rattle.digits.specs.declared.Ident.the-variants.{Given}
@@ -110,6 +110,8 @@ pub record LineTrip : Type 0 where
   -- no other character
   pub named : (silent : Bool) (c : Command) (x : ℕ) → fits c ≡ true → isQuery c ≡ false
       → hasLine (record { silent = silent; command = c; ident = Given x }) ≡ isOne x digitCharacters
+  -- it is the very ninth character of the line
+  pub ninth : (r : Request) (x : ℕ) → hasLine r ≡ true → r .ident ≡ Given x → getD (lineOf r) 8 0 ≡ x
   -- two requests are two lines, also where their identifications differ in case alone
   pub apart : (r q : Request) → hasLine r ≡ true → hasLine q ≡ true → lineOf r ≡ lineOf q → r ≡ q
 

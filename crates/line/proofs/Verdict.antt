@@ -26,6 +26,8 @@ use Rattle.line.specs.Line.{
   judgeRow,
   judgeOf,
 }
+use Rattle.line.specs.Case.{CaseIgnored}
+use Rattle.line.proofs.CaseLaws.{case-ignored}
 use Rattle.line.specs.Verdict.{
   verdictOf,
   isListed,
@@ -77,6 +79,7 @@ verdict cs =
     (not (isIdent (digitOf (charAt cs 8))) || not (isNumber digits)) (rowOf (charAt cs 0) (digitCount cs) n)
     (digitCount cs) n
 
--- Both promises of `judge`, from the first.
-pub judged : {r : Judged} (cs : List ℕ) → r ≡ judgeOf cs → (r ≡ judgeOf cs) × (verdictOf r ≡ lineVerdict cs)
-judged cs e = (e, ap verdictOf e ∙ verdict cs)
+-- All promises of `judge`, from the first.
+pub judged : {r : Judged} (cs : List ℕ) → r ≡ judgeOf cs
+    → (r ≡ judgeOf cs) × ((verdictOf r ≡ lineVerdict cs) × CaseIgnored)
+judged cs e = (e, (ap verdictOf e ∙ verdict cs, case-ignored))

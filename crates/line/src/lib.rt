@@ -22,6 +22,7 @@ ghost use Rattle.line.specs.Line.{
   judgeValue,
   judgeOf,
 };
+ghost use Rattle.line.specs.Case.{CaseIgnored};
 ghost use Rattle.line.specs.Verdict.{verdictOf, lineVerdict};
 use crate::command::Command;
 use crate::row::Row;
@@ -178,6 +179,7 @@ pub fn ident(cs: [u8; 10], count: u16) -> Ident
 pub fn judge(cs: [u8; 10], count: u16) -> Judged
     ensures { λ r. ⌜ r ≡ judgeOf (take count cs) ⌝ }
     ensures { λ r. ⌜ verdictOf r ≡ lineVerdict (take count cs) ⌝ }
+    ensures { λ _. ⌜ CaseIgnored ⌝ }
 {
     if count < 2 {
         return Judged::Refused(4);

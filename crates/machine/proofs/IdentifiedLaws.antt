@@ -149,9 +149,17 @@ borne switch cs true bytes b q e =
     bears switch (charAt cs 8) bytes (subst (λ (y : Ident). Blocks switch y bytes) x b)
 borne switch cs false bytes b q e = absurd (false≢true q)
 
+unborne : (switch : ℕ) (cs : List ℕ) (with : Bool) (bytes : List ℕ) → Blocks switch (cond with (identOf cs) Absent) bytes
+    → (length cs ≡ 9 → ⊥) → Blocks switch Absent bytes
+unborne switch cs true bytes b n =
+    let x : identOf cs ≡ Absent = rw (ne-eqb (length cs) 9 n) in
+    subst (λ (y : Ident). Blocks switch y bytes) x b
+unborne switch cs false bytes b n = b
+
 returned : (switch : ℕ) (cs : List ℕ) (with : Bool) (bytes : List ℕ)
     → Blocks switch (cond with (identOf cs) Absent) bytes → Returned switch cs with bytes
-returned switch cs with bytes b = record { blocks = b; ninth = borne switch cs with bytes b }
+returned switch cs with bytes b =
+    record { blocks = b; ninth = borne switch cs with bytes b; bare = unborne switch cs with bytes b }
 
 pub returns : Returns
 returns s h = record {

@@ -40,10 +40,12 @@ Bears c bytes = (i : ℕ) → i * 10 + 8 < length bytes → getD bytes (i * 10 +
 
 -- What is answered to a line of the characters cs, with its identification or without.
 pub record Returned (switch : ℕ) (cs : List ℕ) (with : Bool) (bytes : List ℕ) : Type 0 where
-  -- blocks one behind the other, or none, and all have it: the ninth of nine characters
+  -- blocks one behind the other, or none, and all have the line's identification or all have none
   pub blocks : Blocks switch (cond with (identOf cs) Absent) bytes
-  -- so that this very character stands in each block
+  -- it is the very ninth of nine characters, and stands in each block
   pub ninth : with ≡ true → length cs ≡ 9 → Bears (charAt cs 8) bytes
+  -- a line of fewer characters, or of more, has none, and neither has its answer
+  pub bare : (length cs ≡ 9 → ⊥) → Blocks switch Absent bytes
 
 pub record ReturnsAfter (s : ℕ) (h : List Call) : Type 0 where
   -- a 0D that is taken ends the line of these characters

@@ -1,19 +1,22 @@
 -- The line printed for a command, and 0D behind it, is its line: no character of a line is 0D, and no line that means a
 -- command begins with a word that has an answer of its own. Assumes nothing.
-use Prim.Native.Nat.{ℕ, _≤_, _<_}
+use Prim.Native.Nat.{ℕ, _-_, _≤_, _<_}
 use native.Mathlib.Omega.{arith}
 use mathlib.Core.Bool.{Bool, true, false, cond, false≢true}
 use mathlib.Core.List.{List, [], _∷_, _++_}
 use mathlib.Core.Path.{_≡_, refl, sym, ap, _∙_}
 use borrow.Author.Tests.{ne-eqb}
 use lib.Dec.{eqb}
-use lib.ListN.{drop}
+use lib.ListN.{length, getD, drop, length-append, length-drop, List·getD-append}
+use lib.Seq.{getD-drop}
 use Rattle.laws.proofs.Pick.{by-lt}
 use Rattle.digits.specs.Digits.{endByte}
+use Rattle.digits.specs.declared.Ident.the-variants.{Given}
 use Rattle.line.specs.declared.command.Command.{Command}
 use Rattle.host.specs.declared.Request.{Request}
 use Rattle.host.specs.Writer.{hasLine, lineOf}
 use Rattle.host.proofs.Lines.{NoEnd, request-lined}
+use Rattle.host.proofs.LineTrips.{ninth-of}
 use Rattle.receiver.specs.Receiver.{before}
 use Rattle.text.specs.Parts.{part}
 use Rattle.text.proofs.PartLaws.{behind-here}
@@ -25,6 +28,7 @@ use Rattle.phrases.specs.Meanings.{word, meantAt, meantBy}
 use Rattle.phrases.specs.Phrases.{
   isSilent,
   unsilenced,
+  hasIdent,
   namedOf,
   bodyOf,
   lineText,
@@ -98,9 +102,40 @@ meant-line : (l : List ℕ) (c : Command) → meantBy (bodyOf l) ≡ M.Command c
 unfolding commandText
 meant-line l c e = ap (requestText (isSilent l) (namedOf (unsilenced l) .ident) l) e
 
+said-line : (l : List ℕ) (c : Command) → meantBy (bodyOf l) ≡ M.Command c → hasLine (requestIn l c) ≡ true
+    → wordsText l ++ (endByte ∷ []) ≡ lineOf (requestIn l c)
+said-line l c e h =
+    ap (λ (x : List ℕ). x ++ (endByte ∷ [])) (commanded l c e ∙ meant-line l c e) ∙ whole-line (requestIn l c) h
+
+-- ---- The identification
+
+-- It is the last character, `silent ` before the form or not.
+last-typed : (l : List ℕ) → hasIdent (unsilenced l) ≡ true
+    → getD (unsilenced l) (length (unsilenced l) - 1) 0 ≡ getD l (length l - 1) 0
+last-typed l = when (isSilent l)
+  where
+    some : (u : List ℕ) → hasIdent u ≡ true → 5 ≤ length u
+    some u = by-lt (λ (t : Bool). t ≡ true → 5 ≤ length u) (length u) 5 _ _ (λ _ e. absurd (false≢true e)) (λ h _. h)
+
+    when : (t : Bool) → hasIdent (cond t (drop 7 l) l) ≡ true
+        → getD (cond t (drop 7 l) l) (length (cond t (drop 7 l) l) - 1) 0 ≡ getD l (length l - 1) 0
+    when true e =
+        let n = length-drop 7 l in
+        let h = some (drop 7 l) e in
+        getD-drop 7 l (length (drop 7 l) - 1) 0 ∙ ap (λ (k : ℕ). getD l k 0) (omega (arith, n, h))
+    when false e = refl
+
+named-line : (l : List ℕ) (c : Command) → meantBy (bodyOf l) ≡ M.Command c → hasLine (requestIn l c) ≡ true
+    → hasIdent (unsilenced l) ≡ true → getD (wordsText l) 8 0 ≡ getD l (length l - 1) 0
+named-line l c e h t =
+    let x = getD (unsilenced l) (length (unsilenced l) - 1) 0 in
+    let i : requestIn l c .ident ≡ Given x = rw t in
+    let n = ninth-of (requestIn l c) x h i in
+    let s = said-line l c e h in
+    let k : 8 < length (wordsText l) =
+    omega (arith, ap length s, n .0, length-append (wordsText l) (endByte ∷ [])) in
+    sym (List·getD-append (wordsText l) (endByte ∷ []) 0 8 k)
+    ∙ (ap (λ (y : List ℕ). getD y 8 0) s ∙ (n .1 ∙ last-typed l t))
+
 pub same-line : SameLine
-same-line = record {
-  line = whole-line;
-  said = λ l c e h. ap (λ (x : List ℕ). x ++ (endByte ∷ [])) (commanded l c e ∙ meant-line l c e)
-      ∙ whole-line (requestIn l c) h;
-}
+same-line = record { line = whole-line; said = said-line; named = named-line }

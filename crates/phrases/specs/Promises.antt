@@ -1,9 +1,10 @@
 -- What `words` promises beside what it writes: the line printed for a command is that command's line, a printed T line
 -- is to the bench program the ticks that the words ask for, and a printed D line to the program preview the trial.
-use Prim.Native.Nat.{ℕ, _≤_, _<_}
+use Prim.Native.Nat.{ℕ, _-_, _≤_, _<_}
 use mathlib.Core.Bool.{true, false}
 use mathlib.Core.List.{List, [], _∷_, _++_}
 use mathlib.Core.Path.{_≡_}
+use lib.ListN.{length, getD}
 use Rattle.digits.specs.Digits.{endByte}
 use Rattle.digits.specs.declared.Number.the-variants.{Value}
 use Rattle.line.specs.declared.command.Command.{Command}
@@ -21,6 +22,7 @@ use Rattle.phrases.specs.Meanings.{word, words, meantBy}
 use Rattle.phrases.specs.Phrases.{
   isSilent,
   unsilenced,
+  hasIdent,
   namedOf,
   bodyOf,
   lineText,
@@ -42,6 +44,9 @@ pub record SameLine : Type 0 where
   -- every line of words that means a command
   pub said : (l : List ℕ) (c : Command) → meantBy (bodyOf l) ≡ M.Command c → hasLine (requestIn l c) ≡ true
       → wordsText l ++ (endByte ∷ []) ≡ lineOf (requestIn l c)
+  -- and an identification is printed as it was typed, a letter in its own case (paper 02, 7/14): the last character
+  pub named : (l : List ℕ) (c : Command) → meantBy (bodyOf l) ≡ M.Command c → hasLine (requestIn l c) ≡ true
+      → hasIdent (unsilenced l) ≡ true → getD (wordsText l) 8 0 ≡ getD l (length l - 1) 0
 
 -- The T line that is printed for n ticks with the input word w, read by the bench program's own form (crate session,
 -- `askedOf`), asks for n ticks with w: `ticksBy n (Value w false)` is `Ticks n w`, a case that session alone can name.

@@ -9,6 +9,7 @@ pub mod ReplyLaws
 pub mod TickReadBack
 pub mod ReadBack
 pub mod FieldLaws
+pub mod NamedLaws
 pub mod OnlyBlocks
 pub mod Promises
 pub mod Examples

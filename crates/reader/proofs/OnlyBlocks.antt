@@ -34,6 +34,7 @@ use Rattle.reader.specs.Reader.{
   switchIn,
   readOf,
 }
+use Rattle.reader.proofs.NamedLaws as named
 use Rattle.reader.specs.Blocks.{Framed, VerdictFits, InRange, spelling, Says, Spelt, BlocksRead}
 use Rattle.reader.proofs.ReadLaws.{too-long}
 use Rattle.reader.proofs.EchoLaws.{echo-taken}
@@ -161,5 +162,7 @@ blocks-read = record {
   without = λ s e f b. subst InRange (sym (says-read s f b) ∙ e) (b .fits);
   others = others;
   named = one-to-one .digits;
+  alike = λ l w a b c d e f x y. named.alike x y l w a b c d e f;
+  none = named.none;
   apart = apart;
 }

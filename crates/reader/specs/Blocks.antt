@@ -2,7 +2,7 @@
 -- the reader takes them and nothing else: `BlocksRead`, a promise of `read_block`.
 use Prim.Native.Nat.{ℕ, _≤_, _<_}
 use mathlib.Core.Bool.{Bool, true, false}
-use mathlib.Core.List.{List, []}
+use mathlib.Core.List.{List, [], _∷_}
 use mathlib.Core.Path.{_≡_}
 use Rattle.digits.specs.Digits.{sixDigits, topBit}
 use Rattle.digits.specs.Characters.{digitCharacters, isOne}
@@ -105,6 +105,20 @@ Spelt s (echo switch n ident) = Says s (echo switch n ident)
 Spelt s (placed switch k z ident) = Says s (placed switch k z ident)
 Spelt s (inputs switch w ident) = Says s (inputs switch w ident)
 
+-- The figures with another identification; 20 has none.
+abbrev pub renamed : Figures → ℕ → Figures
+renamed (refused n) x = refused n
+renamed (verdict switch n ident) x = verdict switch n (Given x)
+renamed (travelled switch k minus t ident) x = travelled switch k minus t (Given x)
+renamed (status switch v ident) x = status switch v (Given x)
+renamed (echo switch n ident) x = echo switch n (Given x)
+renamed (placed switch k z ident) x = placed switch k z (Given x)
+renamed (inputs switch w ident) x = inputs switch w (Given x)
+
+-- Ten bytes with x in the ninth place.
+abbrev pub tenWith : ℕ → ℕ → ℕ → ℕ → ℕ → ℕ → ℕ → ℕ → ℕ → List ℕ
+tenWith l w a b c d e f x = l ∷ w ∷ a ∷ b ∷ c ∷ d ∷ e ∷ f ∷ x ∷ 13 ∷ []
+
 -- Every row of bytes.
 pub record BlocksRead : Type 0 where
   -- a block is read as the figures that it says
@@ -114,7 +128,12 @@ pub record BlocksRead : Type 0 where
   -- 20 is exactly for bytes that are no block
   pub without : (s : List ℕ) → readOf s ≡ refused 20 → (f : Figures) → Says s f → ⊥
   pub others : (s : List ℕ) → ((f : Figures) → Says s f → ⊥) → readOf s ≡ refused 20
-  -- paper 02, 7/14: a block may have each of the 22 identifications, and no other character
+  -- paper 02, 7/14: a character is an identification exactly if it is one of the 22
   pub named : (x : ℕ) → identFits (Given x) ≡ isOne x digitCharacters
+  -- ten bytes are read alike with each of the 22, but for the identification told, and with no other character
+  pub alike : (l w a b c d e f x y : ℕ) → isOne x digitCharacters ≡ true → isOne y digitCharacters ≡ true
+      → readOf (tenWith l w a b c d e f y) ≡ renamed (readOf (tenWith l w a b c d e f x)) y
+  pub none : (l w a b c d e f x : ℕ) → isOne x digitCharacters ≡ false
+      → readOf (tenWith l w a b c d e f x) ≡ refused 20
   -- two blocks are read as two, also where their identifications differ in case alone
   pub apart : (s t : List ℕ) → (readOf s ≡ refused 20 → ⊥) → readOf s ≡ readOf t → s ≡ t
