@@ -30,10 +30,12 @@ module _ (letters numbers : List ℕ) (switch c : ℕ) where
       last : List ℕ
       last = blockOf (rowBlock letters numbers switch (Given c) n)
 
-      when : (t : Bool) → ltb i n ≡ t → (i < n → getD front (i * 10 + 8) 0 ≡ c) → getD (front ++ last) (i * 10 + 8) 0 ≡ c
+      when : (t : Bool) → ltb i n ≡ t → (i < n → getD front (i * 10 + 8) 0 ≡ c)
+          → getD (front ++ last) (i * 10 + 8) 0 ≡ c
       when true e f =
           let q = ltb-true i n e in
-          List·getD-append front last 0 (i * 10 + 8) (omega (arith, q, length-row letters numbers switch (Given c) n)) ∙ f q
+          List·getD-append front last 0 (i * 10 + 8) (omega (arith, q, length-row letters numbers switch (Given c) n))
+          ∙ f q
       when false e f =
           let q = ltb-false i n e in
           let k : i * 10 + 8 ≡ length front + 8 = omega (arith, q, h, length-row letters numbers switch (Given c) n) in

@@ -53,11 +53,13 @@ parts c a b d p q r =
 
 twenty-two : (c : ℕ) → isDigit (digitOf c) ≡ isOne c digitCharacters
 twenty-two c =
-    by-lt Is c 48 _ _ (λ h. sym (parts c _ _ _ (below c 48 10 h) (below c 65 6 (omega arith)) (below c 97 6 (omega arith))))
+    by-lt Is c 48 _ _
+    (λ h. sym (parts c _ _ _ (below c 48 10 h) (below c 65 6 (omega arith)) (below c 97 6 (omega arith))))
     λ h1. by-lt Is c 58 _ _
     (λ h. sym (parts c _ _ _ (inside c 48 10 h1 h) (below c 65 6 (omega arith)) (below c 97 6 (omega arith))))
     λ h2. by-lt Is c 65 _ _ (λ h. sym (parts c _ _ _ (above c 48 10 h2) (below c 65 6 h) (below c 97 6 (omega arith))))
-    λ h3. by-lt Is c 71 _ _ (λ h. sym (parts c _ _ _ (above c 48 10 h2) (inside c 65 6 h3 h) (below c 97 6 (omega arith))))
+    λ h3. by-lt Is c 71 _ _
+    (λ h. sym (parts c _ _ _ (above c 48 10 h2) (inside c 65 6 h3 h) (below c 97 6 (omega arith))))
     λ h4. by-lt Is c 97 _ _ (λ h. sym (parts c _ _ _ (above c 48 10 h2) (above c 65 6 h4) (below c 97 6 h)))
     λ h5. by-lt Is c 103 _ _ (λ h. sym (parts c _ _ _ (above c 48 10 h2) (above c 65 6 h4) (inside c 97 6 h5 h)))
     λ h6. sym (parts c _ _ _ (above c 48 10 h2) (above c 65 6 h4) (above c 97 6 h6))
@@ -106,10 +108,14 @@ read-back (Small v) c p =
     ap digitOf (sym (same-character (87 + v) c e)) ∙ digit-small v (leb-true 10 v (b .0)) (ltb-true v 16 (b .1)))
     (λ h e. absurd (no-character c e)) p
 
+apart : (c e : ℕ) → isDigit (digitOf c) ≡ true → digitOf c ≡ digitOf e → c ≡ e
+apart c e p q =
+    same-character c e (sym (own c p) ∙ (ap spelt q ∙ own e (subst (λ (d : Digit). isDigit d ≡ true) q p)))
+
 pub one-to-one : OneToOne
 one-to-one = record {
   digits = twenty-two;
   own = own;
   one = read-back;
-  apart = λ c e p q. same-character c e (sym (own c p) ∙ (ap spelt q ∙ own e (subst (λ (d : Digit). isDigit d ≡ true) q p)));
+  apart = apart;
 }

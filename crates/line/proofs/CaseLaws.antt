@@ -166,7 +166,9 @@ case-ignored cs es a =
     number = same-told (digitChars cs) (digitChars es) six
 
     digits : isNumber (numberOf (digitChars cs)) ≡ isNumber (numberOf (digitChars es))
-    digits = sym (told-number (numberOf (digitChars cs))) ∙ (ap isNumber number ∙ told-number (numberOf (digitChars es)))
+    digits =
+        sym (told-number (numberOf (digitChars cs))) ∙ (ap isNumber number ∙ told-number (numberOf (digitChars es)))
 
     value : valueOf (numberOf (digitChars cs)) ≡ valueOf (numberOf (digitChars es))
-    value = sym (told-value (numberOf (digitChars cs))) ∙ (ap valueOf number ∙ told-value (numberOf (digitChars es)))
+    value =
+        sym (told-value (numberOf (digitChars cs))) ∙ (ap valueOf number ∙ told-value (numberOf (digitChars es)))

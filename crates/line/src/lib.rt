@@ -7,21 +7,8 @@ ghost use mathlib.Core.Path.{_≡_};
 ghost use lib.ListN.{take};
 ghost use Rattle.digits.specs.Digits.{sixDigits, digitOf, numberOf, Under};
 ghost use Rattle.digits.specs.Characters.{digitCharacters, isOne};
-ghost use Rattle.line.specs.Line.{
-  isLetter,
-  isSwitch,
-  isIdent,
-  isNumber,
-  valueOf,
-  charAt,
-  silentOf,
-  identOf,
-  digitChars,
-  turnedAway,
-  judgeRow,
-  judgeValue,
-  judgeOf,
-};
+ghost use Rattle.line.specs.Line.{isLetter, isSwitch, isIdent, isNumber, valueOf, charAt, silentOf, identOf};
+ghost use Rattle.line.specs.Line.{digitChars, turnedAway, judgeRow, judgeValue, judgeOf};
 ghost use Rattle.line.specs.Case.{CaseIgnored};
 ghost use Rattle.line.specs.Verdict.{verdictOf, lineVerdict};
 use crate::command::Command;

@@ -36,7 +36,19 @@ use Rattle.machine.specs.Steps.{
   tickStep,
 }
 use Rattle.machine.specs.Calls.{Call, byte, tick, run, state}
-use Rattle.machine.specs.Settle.{Latest, noLine, wLine, latestBy, endsW, lastW, switchOf, blockTo, isDue, blockDue, latestBlock}
+use Rattle.machine.specs.Settle.{
+  Latest,
+  noLine,
+  wLine,
+  latestBy,
+  endsW,
+  lastW,
+  switchOf,
+  blockTo,
+  isDue,
+  blockDue,
+  latestBlock,
+}
 use Rattle.machine.specs.Identified.{received, latestW, isReturned, Bears, Returned, Returns}
 use Rattle.machine.proofs.AsideLaws.{tick-aside, end-clear, joins, untakes}
 use Rattle.machine.proofs.Outcomes.{by-line}
@@ -100,7 +112,8 @@ accepted-blocks m b c digits =
 
 byte-blocks : (m : Machine) (b : ℕ) (d : List ℕ) → Answers m b (outcome m b d)
 byte-blocks m b =
-    by-line m (Answers m b) (no-blocks _ _) (no-blocks _ _) (refused-blocks m b) (λ c digits q. accepted-blocks m b c digits) b
+    by-line m (Answers m b) (no-blocks _ _) (no-blocks _ _) (refused-blocks m b)
+    (λ c digits q. accepted-blocks m b c digits) b
 
 -- ---- W lines
 
@@ -112,7 +125,8 @@ Named (wLine silent ident) cs = ident ≡ identOf cs
 named-byte : (m : Machine) (b : ℕ) (d : List ℕ) (cs : List ℕ) (l : Latest) (old : List ℕ) → m .line ≡ cs → Named l old
     → Named (latestBy (outcome m b d) l) (cond (endsW (outcome m b d)) cs old)
 named-byte m b d cs l old e q =
-    by-line m (λ (o : Outcome). Named (latestBy o l) (cond (endsW o) cs old)) q q (λ n h. q) (λ c digits p. when (isW c)) b d
+    by-line m (λ (o : Outcome). Named (latestBy o l) (cond (endsW o) cs old)) q q (λ n h. q)
+    (λ c digits p. when (isW c)) b d
   where
     when : (t : Bool) → Named (cond t (wLine (silentOf (m .line)) (identOf (m .line))) l) (cond t cs old)
     when true = ap identOf e
@@ -149,8 +163,9 @@ borne switch cs true bytes b q e =
     bears switch (charAt cs 8) bytes (subst (λ (y : Ident). Blocks switch y bytes) x b)
 borne switch cs false bytes b q e = absurd (false≢true q)
 
-unborne : (switch : ℕ) (cs : List ℕ) (with : Bool) (bytes : List ℕ) → Blocks switch (cond with (identOf cs) Absent) bytes
-    → (length cs ≡ 9 → ⊥) → Blocks switch Absent bytes
+-- With another number of characters there is none to bear.
+unborne : (switch : ℕ) (cs : List ℕ) (with : Bool) (bytes : List ℕ)
+    → Blocks switch (cond with (identOf cs) Absent) bytes → (length cs ≡ 9 → ⊥) → Blocks switch Absent bytes
 unborne switch cs true bytes b n =
     let x : identOf cs ≡ Absent = rw (ne-eqb (length cs) 9 n) in
     subst (λ (y : Ident). Blocks switch y bytes) x b

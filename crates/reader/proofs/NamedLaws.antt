@@ -52,9 +52,10 @@ module _ (x y : ℕ) where
   alike l w a b c d e f p q =
       let g : identFits (Given x) ≡ true = one-to-one .digits x ∙ p in
       let h : identFits (Given y) ≡ true = one-to-one .digits y ∙ q in
-      let z = switched l (digitOf w) (numberOf (a ∷ b ∷ c ∷ d ∷ e ∷ f ∷ [])) in
-      ap (λ (t : Bool). onlyIf t (switchIn l (digitOf w) (numberOf (a ∷ b ∷ c ∷ d ∷ e ∷ f ∷ [])) (Given y))) h
-      ∙ (z ∙ ap (λ (t : Bool). renamed (onlyIf t (switchIn l (digitOf w) (numberOf (a ∷ b ∷ c ∷ d ∷ e ∷ f ∷ [])) (Given x))) y) (sym g))
+      let n = numberOf (a ∷ b ∷ c ∷ d ∷ e ∷ f ∷ []) in
+      ap (λ (t : Bool). onlyIf t (switchIn l (digitOf w) n (Given y))) h
+      ∙ (switched l (digitOf w) n
+      ∙ ap (λ (t : Bool). renamed (onlyIf t (switchIn l (digitOf w) n (Given x))) y) (sym g))
 
 pub none : (l w a b c d e f x : ℕ) → isOne x digitCharacters ≡ false → readOf (tenWith l w a b c d e f x) ≡ refused 20
 unfolding readOf

@@ -4,7 +4,7 @@ use Prim.Native.Nat.{ℕ, _≤_, _<_}
 use mathlib.Core.Bool.{Bool, true, false}
 use mathlib.Core.List.{List, [], _∷_}
 use mathlib.Core.Path.{_≡_}
-use Rattle.digits.specs.Digits.{sixDigits, topBit}
+use Rattle.digits.specs.Digits.{endByte, sixDigits, topBit}
 use Rattle.digits.specs.Characters.{digitCharacters, isOne}
 use Rattle.digits.specs.declared.Ident.{Ident}
 use Rattle.digits.specs.declared.Ident.the-variants.{Given}
@@ -115,9 +115,9 @@ renamed (echo switch n ident) x = echo switch n (Given x)
 renamed (placed switch k z ident) x = placed switch k z (Given x)
 renamed (inputs switch w ident) x = inputs switch w (Given x)
 
--- Ten bytes with x in the ninth place.
+-- Ten bytes with x in the ninth place and 0D behind it.
 abbrev pub tenWith : ℕ → ℕ → ℕ → ℕ → ℕ → ℕ → ℕ → ℕ → ℕ → List ℕ
-tenWith l w a b c d e f x = l ∷ w ∷ a ∷ b ∷ c ∷ d ∷ e ∷ f ∷ x ∷ 13 ∷ []
+tenWith l w a b c d e f x = l ∷ w ∷ a ∷ b ∷ c ∷ d ∷ e ∷ f ∷ x ∷ endByte ∷ []
 
 -- Every row of bytes.
 pub record BlocksRead : Type 0 where
@@ -130,7 +130,8 @@ pub record BlocksRead : Type 0 where
   pub others : (s : List ℕ) → ((f : Figures) → Says s f → ⊥) → readOf s ≡ refused 20
   -- paper 02, 7/14: a character is an identification exactly if it is one of the 22
   pub named : (x : ℕ) → identFits (Given x) ≡ isOne x digitCharacters
-  -- ten bytes are read alike with each of the 22, but for the identification told, and with no other character
+  -- ten bytes are read alike with each of the 22, but for the identification that is told; with any other character
+  -- they are 20
   pub alike : (l w a b c d e f x y : ℕ) → isOne x digitCharacters ≡ true → isOne y digitCharacters ≡ true
       → readOf (tenWith l w a b c d e f y) ≡ renamed (readOf (tenWith l w a b c d e f x)) y
   pub none : (l w a b c d e f x : ℕ) → isOne x digitCharacters ≡ false

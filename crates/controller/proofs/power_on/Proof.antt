@@ -71,11 +71,14 @@ powered s r e = (
   ),
 )
   where
-    named : Returns × (ReturnsAnswers × ReturnWitness)
-    named = (machine.returns, (returns-answers, returned))
+    named : CarryWitness × (Returns × (ReturnsAnswers × ReturnWitness))
+    named = (carries-on, (machine.returns, (returns-answers, returned)))
 
-    later : Settles × (SettlesAnswers × (BlockWitness × (CarryOn × (CarryAnswers × (CarryWitness × (Returns × (ReturnsAnswers × ReturnWitness)))))))
-    later = (settled, (settles-answers, (blocks-answered, (carry-on, (carry-answers, (carries-on, named))))))
+    later : Settles
+        × (SettlesAnswers
+        × (BlockWitness
+        × (CarryOn × (CarryAnswers × (CarryWitness × (Returns × (ReturnsAnswers × ReturnWitness)))))))
+    later = (settled, (settles-answers, (blocks-answered, (carry-on, (carry-answers, named)))))
 
 is-bad-requires : tie.Need-is-bad-requires
 is-bad-requires c κs = search needs

@@ -22,7 +22,8 @@ enum-told-3 : tie.Need-enum-told-3
 enum-told-3 c = search needs
 
 -- Any digit is one of the 22.
-named : (c : ℕ) (r : Bool) → OneToOne → r ≡ isIdent (digitOf c) → (r ≡ isIdent (digitOf c)) × (r ≡ isOne c digitCharacters)
+named : (c : ℕ) (r : Bool) → OneToOne → r ≡ isIdent (digitOf c)
+    → (r ≡ isIdent (digitOf c)) × (r ≡ isOne c digitCharacters)
 named c r o e = (e, e ∙ o .digits c)
 
 returns : tie.Need-returns
