@@ -21,7 +21,7 @@ from subprocess import PIPE
 import stored
 
 SESSIONS = ["protocol.in", "refusals.in", "readings.in", "stops.in", "dwell.in", "opening.in", "settle.in"]
-WAITING = re.compile(rb"W[04]([0-9A-Fa-f]{6}[0-9A-F]?)?\n?")  # an accepted W line: a T line gives its block
+WAITING = re.compile(rb"W[04]([0-9A-Fa-f]{6}[0-9A-Fa-f]?)?\n?")  # an accepted W line: a T line gives its block
 LIMIT = 20  # seconds for a reply
 PAUSE = 0.01  # seconds in which nothing may be printed
 
