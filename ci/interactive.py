@@ -55,11 +55,11 @@ def bench_sessions():
 
 
 def desk_sessions():
-    """The stored lines of the desk, each answered by one line."""
-    lines, answers = (BytesIO(Path("crates/desk", name).read_bytes()).readlines() for name in ("stdin", "stdout"))
-    if len(lines) != len(answers):
-        raise Wrong(f"{len(lines)} stored lines have {len(answers)} answers")
-    yield "crates/desk/stdin", list(zip(lines, answers))
+    """The stored lines of the desk, each with its answer."""
+    try:
+        yield "crates/desk/stdin", list(stored.desk())
+    except ValueError as wrong:
+        raise Wrong(wrong) from None
 
 
 # What each program is given: its sessions, and a line with its reply before it is made to stop.

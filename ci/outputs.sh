@@ -1,8 +1,9 @@
 #!/usr/bin/env bash
 # Stored outputs against the reference's programs: ci/outputs.sh compares, ci/outputs.sh make writes them anew. Each
 # NAME.in has its NAME.out beside it; crates/bench, crates/desk and crates/preview have stdin and stdout;
-# docs/recipe.out is what the words of docs/recipe.txt come to by way of the bench program, docs/trial.out what those of
-# docs/trial.txt show on screen; the program vectors prints the answers to all files that its args name.
+# docs/recipe.out and docs/station.out are what the words of docs/recipe.txt, and the words and station lines of
+# docs/station.txt, come to by way of the bench program, docs/trial.out what the words of docs/trial.txt show on screen;
+# the program vectors prints the answers to all files that its args name.
 set -eu
 cd "$(dirname "$0")/.."
 cargo build --release --offline --quiet --manifest-path reference/Cargo.toml
@@ -30,7 +31,8 @@ printed() {
         crates/bench/stdout) "$(printer session)" < crates/bench/stdin ;;
         crates/desk/stdout) "$(printer words)" < crates/desk/stdin ;;
         crates/preview/stdout) "$(printer screen)" < crates/preview/stdin ;;
-        docs/recipe.out) "$(printer words)" < docs/recipe.txt | "$(printer session)" | "$(printer words)" ;;
+        docs/recipe.out | docs/station.out)
+            "$(printer words)" < "${1%.out}.txt" | "$(printer session)" | "$(printer words)" ;;
         docs/trial.out) "$(printer words)" < docs/trial.txt | "$(printer screen)" ;;
         *) "$(printer session)" < "${1%.out}.in" ;;
     esac

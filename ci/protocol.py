@@ -2,8 +2,8 @@
 """Checks docs/PROTOCOL.md against the stored session protocol.in: ci/protocol.py
 
 The page's last block is that session, `> ` a request and `< ` each line of its reply. A row of a table that ends in a
-request and a reply must stand in it as such, and so must each status. The section "From words" has rows of another
-kind: ci/words.py checks it. Exit 1, naming what does not stand there.
+request and a reply must stand in it as such, and so must each status. The sections "From words" and "Lines of the other
+bench make" have rows of another kind: ci/words.py checks them. Exit 1, naming what does not stand there.
 """
 import re
 import sys

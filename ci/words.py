@@ -1,9 +1,11 @@
 #!/usr/bin/env python3
-"""Checks the section "From words" of docs/PROTOCOL.md: ci/words.py
+"""Checks the sections "From words" and "Lines of the other bench make" of docs/PROTOCOL.md: ci/words.py
 
 Examples: `X` prints `Y`, or `X` is `Y`, in the text, and each row of a table, its first cell X and its last Y in
-backticks. X must be a line of crates/desk/stdin and Y its answer, the line at the same place of crates/desk/stdout.
-An example that fits a line of crates/wording/specs/Page.antt must stand there too, where it is proved.
+backticks, each line of an answer by itself; lines that a cell between says to print the same; and each line that a
+number's row has in its last cell, Y being that number with its sentence. X must be a line of crates/desk/stdin and Y
+its answer in crates/desk/stdout. An example that fits a line of crates/wording/specs/*Page.antt must stand there too,
+where it is proved.
 Fixed words: the table of sentences, the words and forms in the tables of words, and what the text says of a status must
 be those of crates/sentences/specs/Sentences.antt, which the desk is proved to say.
 Recipe: its table in README.md has the lines of docs/recipe.txt and docs/recipe.out side by side.
@@ -15,31 +17,35 @@ import sys
 from itertools import groupby, zip_longest
 from pathlib import Path
 
+import stored
+
 ROOT = Path(__file__).resolve().parent.parent
-SECTION = "## From words"
-DESK, SPEC, PAGE = "crates/desk", "crates/sentences/specs/Sentences.antt", "crates/wording/specs/Page.antt"
-ROW = re.compile(r'answerText \(chars "([^"]*)"\)\s+≡ chars "([^"]*)"')
+SECTIONS = "## From words", "## Lines of the other bench make"
+DESK, SPEC, PAGES = "crates/desk", "crates/sentences/specs/Sentences.antt", "crates/wording/specs"
+ROW = re.compile(r'answerText \(chars "([^"]*)"\)\s+≡ (?:chars ("[^"]*")|lines \(([^()]*)\))')
 LONGEST = 110  # of a text that is printed: a longer one has no room in a line of the specification
 EXAMPLE = re.compile(r"`([^`]+)` (?:prints|is) `([^`]+)`")
 QUOTED = re.compile(r"`([^`]+)`")
+LINES = re.compile(r"`[^`]+`(?: `[^`]+`)*")  # a cell with each line of an answer
+SAME = re.compile(r"(`[^`]+`(?:(?:, | and )`[^`]+`)*) print the same")
 BEGINS = re.compile(r"\||- |\d+\. ")  # a row or an item of a list; any other line goes on with the one before
 STATE = re.compile(r"(?:(\d) )?`([^`]+)`(?: \(bit (\d)\))?")  # what a status says, its bit before or behind it
 FIRST = {"sentences": 0, "states": -1}  # the number of a table's first row; a state has its bit, that of no bit -1
 
 
-def numbered(page, within=True):
-    """Each line of the section, or each line outside it, with its number on the page."""
+def numbered(page, sections=SECTIONS, within=True):
+    """Each line of the sections, or each line outside them, with its number on the page."""
     heading = None
     for number, line in enumerate(page.splitlines(), 1):
         heading = line if line.startswith("## ") else heading
-        if (heading == SECTION) == within:
+        if (heading in sections) == within:
             yield number, line
 
 
-def blocks(page):
+def blocks(page, section):
     """Each row, item and paragraph of the section on one line, with the number of its first line."""
     found = [(0, "")]
-    for number, line in numbered(page):
+    for number, line in numbered(page, [section]):
         first, text = found[-1]
         if line and text and not BEGINS.match(line):
             found[-1] = first, f"{text} {line.strip()}"
@@ -65,27 +71,33 @@ def examples(parts):
     """Each line that is typed with what is printed, and the number of its line; None for a row that has none."""
     for head, rows in tables(parts):
         for number, cells in rows if head != "Number" else []:
-            quoted = [QUOTED.fullmatch(cell) for cell in (cells[0], cells[-1])]
-            yield number, tuple(cell.group(1) for cell in quoted) if all(quoted) else None
+            typed, printed = QUOTED.fullmatch(cells[0]), LINES.fullmatch(cells[-1])
+            answer = "\n".join(QUOTED.findall(cells[-1]))
+            yield number, (typed.group(1), answer) if typed and printed else None
+            for same in SAME.findall(" | ".join(cells[1:-1])):
+                yield from ((number, (line, answer)) for line in QUOTED.findall(same))
     for number, text in parts:
         for pair in EXAMPLE.findall(text) if not text.startswith("|") else []:
             yield number, pair
 
 
-def desk(name):
-    """The lines of a file of the desk, whatever bytes they have; the last may lack its line feed."""
-    return (ROOT / DESK / name).read_bytes().removesuffix(b"\n").split(b"\n")
+def refusals(parts, sentences):
+    """Each line that the table of numbers has, with that number and its sentence."""
+    for head, rows in tables(parts):
+        for number, cells in rows if head == "Number" else []:
+            lines = QUOTED.findall(cells[-1])
+            yield from ((number, (line, f"turned away by {cells[0]}: {sentences[cells[0]]}")) for line in lines)
 
 
 def unanswered(shown):
     """Where an example is not what the stored lines and answers have."""
-    lines, answers = desk("stdin"), desk("stdout")
-    if len(lines) != len(answers):
-        yield f"the {len(lines)} lines of {DESK}/stdin have {len(answers)} answers"
+    try:
+        answers = {line.removesuffix(b"\n"): answer.removesuffix(b"\n") for line, answer in stored.desk()}
+    except ValueError as wrong:
+        yield str(wrong)
         return
-    stored = dict(zip(lines, answers))
     for number, pair in shown:
-        answer = stored.get(pair[0].encode()) if pair else None
+        answer = answers.get(pair[0].encode()) if pair else None
         if pair is None:
             yield f"line {number}: a row without a line and what is printed"
         elif answer is None:
@@ -96,10 +108,11 @@ def unanswered(shown):
 
 def unproved(shown):
     """Where an example is none of those that are proved."""
-    proved = set(ROW.findall((ROOT / PAGE).read_text(encoding="utf-8")))
+    text = "".join(page.read_text(encoding="utf-8") for page in (ROOT / PAGES).glob("*Page.antt"))
+    proved = {(typed, "\n".join(re.findall('"([^"]*)"', one or lines))) for typed, one, lines in ROW.findall(text)}
     for number, pair in shown:
         if pair and len(pair[1]) <= LONGEST and pair not in proved:
-            yield f"line {number}: `{pair[0]}` with `{pair[1]}` does not stand in {PAGE}"
+            yield f"line {number}: `{pair[0]}` with `{pair[1]}` does not stand in {PAGES}"
 
 
 def untold():
@@ -165,12 +178,15 @@ def differing(told):
 
 
 def main():
-    parts = blocks((ROOT / "docs/PROTOCOL.md").read_text(encoding="utf-8"))
-    shown, told = list(examples(parts)), fixed(parts)
+    page = (ROOT / "docs/PROTOCOL.md").read_text(encoding="utf-8")
+    parts, station = (blocks(page, section) for section in SECTIONS)
+    sentences = {cells[0]: cells[1] for cells in rows_of(parts, "Number")}
+    shown = [*examples(parts), *examples(station), *refusals(station, sentences)]
+    told = fixed(parts)
     wrong = [*unanswered(shown), *unproved(shown), *differing(told), *untold(), *unshown()]
     counts = ", ".join(f"{len(rows)} {name}" for name, rows in told.items())
     total = f"words: {len(shown)} examples, {counts}, {len(wrong)} wrong"
-    print("\n".join([f"From words: {w}" for w in wrong] + [total]))
+    print("\n".join([f"words: {w}" for w in wrong] + [total]))
     return 1 if wrong or not shown else 0
 
 

@@ -1,4 +1,5 @@
-//! From words: the program `desk`, the host end for people. It answers each line with one line.
+//! From words: the program `desk`, the host end for people. It answers each line with one line, a station's move with
+//! six.
 
 mod asked;
 mod commands;
@@ -7,6 +8,7 @@ mod numbers;
 mod program_words;
 mod replies;
 mod sentences;
+mod station;
 mod sums;
 
 use crate::fields::split;
@@ -22,10 +24,10 @@ pub use sentences::SENTENCES;
 /// From words, rule 1: the least number of characters of a line that has no form for its length.
 pub const OVER_LONG: usize = 100;
 
-/// From words: what a line in one of the forms prints, or the number that turns it away.
+/// From words: what a line in one of the forms prints, without its last line feed, or the number that turns it away.
 type Told = Result<String, u8>;
 
-/// From words, rule 4: words in a form of the two tables; those of the second have neither `silent` nor `as`.
+/// From words, rule 5: words in a form of the two tables; those of the second have neither `silent` nor `as`.
 fn told_of_words(line: &[u8]) -> Option<Told> {
     let asked = asked(line);
     let words = split(asked.body);
@@ -42,13 +44,16 @@ fn told(line: &[u8]) -> Option<Told> {
     if line.len() >= OVER_LONG {
         return None;
     }
+    if station::begins_as_command(line) {
+        return Some(station::told(line));
+    }
     if replies::begins_as_block(line) {
         return Some(replies::in_words(line));
     }
     sums::passed_on(line).map(Ok).or_else(|| told_of_words(line))
 }
 
-/// From words: what one line prints, its line feed included. This is total: every line has an answer.
+/// From words: what one line prints, its last line feed included. This is total: every line has an answer.
 pub fn answer(line: &[u8]) -> String {
     let mut text = match told(line) {
         Some(Ok(text)) => text,

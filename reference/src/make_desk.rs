@@ -11,6 +11,7 @@ mod near_blocks;
 mod odd_lines;
 mod page;
 mod program_words;
+mod station;
 mod sums;
 mod trials;
 mod wishes;
@@ -31,6 +32,7 @@ pub fn desk_text() -> Vec<u8> {
     blocks::blocks(&mut lines);
     near_blocks::near_blocks(&mut lines);
     carry_on::carry_on(&mut lines);
+    station::station(&mut lines);
     sums::sums(&mut lines);
     misspelt::misspelt(&mut lines);
     odd_lines::lengths(&mut lines);

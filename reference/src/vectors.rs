@@ -1,9 +1,10 @@
-//! Stored vectors: each line asks the writer, the reader, the master picker, the figures or the journal.
+//! Stored vectors: each line asks the writer, the reader, the converter, the master picker, the figures or the journal.
 
 mod figures;
 mod journal;
 mod kind;
 mod reader;
+mod station;
 mod writer;
 
 use crate::fields::{bytes_text, eight_digits, printed, run_lines, split};
@@ -13,6 +14,7 @@ use std::io::{self, BufRead, Write};
 pub use figures::LARGEST_WHOLE;
 pub use journal::MOST_JOURNAL_BYTES;
 pub use reader::MOST_READER_BYTES;
+pub use station::MOST_COMMAND_BYTES;
 pub use writer::{BYTE_BEFORE, LONGEST_LINE_BUFFER};
 
 /// Stored vectors: number `00` and what was answered, or the number of the refusal alone.
@@ -49,6 +51,7 @@ fn obey(line: &[u8]) -> Option<String> {
     match fields[..] {
         [b"W", ..] => writer::writer_line(&fields[1..]),
         [b"B", bytes] => reader::reader_line(bytes),
+        [b"C", bytes] => station::station_line(bytes),
         [b"M", ..] => picker_line(&fields[1..]),
         [b"F", kind, sign, m, exponent] => figures::figure_line(kind, sign, m, exponent),
         [b"U", kind, n] => figures::units_line(kind, n),

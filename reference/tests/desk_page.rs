@@ -54,7 +54,7 @@ fn texts_hold(heading: &str, before: bool) -> Vec<String> {
     examples.into_iter().map(|three| three[0].to_string()).collect()
 }
 
-/// `RESET`, of rule 2; then the first cells of all tables with examples, and those of the text, as the page has them.
+/// `RESET`, of rule 3; then the first cells of all tables with examples, and those of the text, as the page has them.
 fn examples() -> Vec<String> {
     assert!(section().contains("The capitals `RESET` are such a line: 20."));
     assert!(answer(b"RESET").starts_with("turned away by 20: "));
@@ -102,9 +102,9 @@ fn the_stored_input_begins_with_the_page() {
 fn what_the_stored_input_reaches() {
     let text = desk_text();
     let stored: Vec<&[u8]> = text.split(|&byte| byte == b'\n').collect();
-    assert!(stored.len() <= 1_200 && !stored[stored.len() - 1].is_empty());
+    assert!(stored.len() <= 1_400 && !stored[stored.len() - 1].is_empty());
     let printed: Vec<String> = stored.iter().map(|line| answer(line)).collect();
-    for number in [3, 4, 5, 6, 7, 8, 9, 10, 11, 12, 13, 14, 15, 16, 17, 19, 20, 21, 25, 26] {
+    for number in [3, 4, 5, 6, 7, 8, 9, 10, 11, 12, 13, 14, 15, 16, 17, 19, 20, 21, 25, 26, 27, 28, 29] {
         let begins = format!("turned away by {number}: ");
         assert!(printed.iter().any(|line| line.starts_with(&begins)), "{number}");
     }

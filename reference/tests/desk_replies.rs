@@ -95,7 +95,7 @@ fn lines_that_begin_as_a_block_and_are_none() {
     no_blocks(&[
         "S0500000", "S0700000", "S0c00000", "S0F00000", "S0850000", "S08D0000", "S0D00400", "S0E04000", "S0b00000",
     ]);
-    no_blocks(&["s0500000", "s0600000", "s00fffff", "R000000", "R0abcdef", "RC000000", "RESET", "SEE", "U0000000\r"]);
+    no_blocks(&["s0500000", "s0600000", "s00fffff", "R000000", "R0abcdef", "RC000000", "RESET", "SEED", "U0000000\r"]);
     no_blocks(&[&format!("U{}", "0".repeat(98))]);
 }
 

@@ -73,7 +73,7 @@ module _ (u : List ℕ) where
 
 -- ---- `silent`
 
-same-equal : (a b : List ℕ) → same a b ≡ true → a ≡ b
+pub same-equal : (a b : List ℕ) → same a b ≡ true → a ≡ b
 unfolding same
 same-equal [] [] e = refl
 same-equal [] (y ∷ ys) e = absurd (false≢true e)

@@ -98,8 +98,8 @@ pub(crate) fn nearest(text: Text, line: &[u8]) -> Text
     sentences::question(text, parts::part(body(line), SPACE, 0))
 }
 
-// The line of a request, or the number that refuses it.
-fn line_of(text: Text, request: Request) -> Text
+// The line of a request, without 0D, or the number that refuses it.
+pub fn line_of(text: Text, request: Request) -> Text
     ensures { λ r. ⌜ r ≡ writes text (lineText request) ⌝ }
 {
     let mut buf = [0u8; 10];

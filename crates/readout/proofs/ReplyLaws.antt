@@ -1,6 +1,6 @@
 -- Every reply block is taken for one and told in words: a block's bytes before 0D begin with a letter and a switch
--- digit, and are 8 or 9. Assumes nothing.
-use Prim.Native.Nat.{ℕ, _+_, _/_, _%_, _≤_}
+-- digit, and are 8 or 9. Their first word has more than three characters. Assumes nothing.
+use Prim.Native.Nat.{ℕ, suc, _+_, _/_, _%_, _≤_, _<_}
 use native.Mathlib.Omega.{arith}
 use mathlib.Core.Bool.{true, false, false≢true}
 use mathlib.Core.List.{List, [], _∷_, _++_}
@@ -18,6 +18,7 @@ use Rattle.block.specs.Block.{blockOf}
 use Rattle.line.specs.Line.{isIdent}
 use Rattle.receiver.specs.Receiver.{before, beforeEnd}
 use Rattle.reply.specs.Reply.{blockFor}
+use Rattle.text.specs.Parts.{behind, part}
 use Rattle.reader.specs.Reader as F
 use Rattle.reader.specs.Reader.{Figures, readOf}
 use Rattle.reader.specs.Blocks.{Framed, InRange, spelling, Says, Spelt}
@@ -25,13 +26,19 @@ use Rattle.reader.proofs.OnlyBlocks.{blocks-read}
 use Rattle.readout.specs.Readout.{isLetter, isBlock, figureText, blockText}
 use Rattle.readout.specs.Promises.{isRead, ToldBy, RepliesTold}
 
--- ---- no byte before the last is 0D
+-- ---- no byte before the last is 0D, and none of the first eight a space
+
+capital-other : (v b : ℕ) → b < 48 → eqb (capitalOf v) b ≡ false
+capital-other v b l =
+    by-lt (λ (x : ℕ). eqb x b ≡ false) (v % 16) 10 _ _
+    (λ h. ne-eqb (48 + v % 16) b (λ (e : 48 + v % 16 ≡ b). omega (arith, e)))
+    (λ h. ne-eqb (55 + v % 16) b (λ (e : 55 + v % 16 ≡ b). omega (arith, e)))
 
 capital-no-end : (v : ℕ) → eqb (capitalOf v) 13 ≡ false
-capital-no-end v =
-    by-lt (λ (x : ℕ). eqb x 13 ≡ false) (v % 16) 10 _ _
-    (λ h. ne-eqb (48 + v % 16) 13 (λ (e : 48 + v % 16 ≡ 13). omega (arith, e)))
-    (λ h. ne-eqb (55 + v % 16) 13 (λ (e : 55 + v % 16 ≡ 13). omega (arith, e)))
+capital-no-end v = capital-other v 13 (omega arith)
+
+capital-no-space : (v : ℕ) → eqb (capitalOf v) 32 ≡ false
+capital-no-space v = capital-other v 32 (omega arith)
 
 ident-no-end : (c : ℕ) → isIdent (digitOf c) ≡ true → eqb c 13 ≡ false
 ident-no-end c h =
@@ -39,6 +46,18 @@ ident-no-end c h =
 
 letter-no-end : (c : ℕ) → isLetter c ≡ true → eqb c 13 ≡ false
 letter-no-end c h = ne-eqb c 13 (λ (e : c ≡ 13). false≢true (ap isLetter (sym e) ∙ h))
+
+letter-no-space : (c : ℕ) → isLetter c ≡ true → eqb c 32 ≡ false
+letter-no-space c h = ne-eqb c 32 (λ (e : c ≡ 32). false≢true (ap isLetter (sym e) ∙ h))
+
+-- A letter and three digits without a space are more than a word of three.
+four-long : (a b c d : ℕ) (l : List ℕ) → isLetter a ≡ true
+    → length (part 32 0 (a ∷ capitalOf b ∷ capitalOf c ∷ capitalOf d ∷ l)) ≡ 3 → ⊥
+unfolding before behind
+four-long a b c d l h e =
+    let n : suc (suc (suc (suc (length (before (λ (x : ℕ). eqb x 32) l))))) ≡ 3 =
+    rw (letter-no-space a h, capital-no-space b, capital-no-space c, capital-no-space d) at e in
+    omega (arith, n)
 
 -- ---- a block's bytes before 0D
 
@@ -64,6 +83,7 @@ record Ended (s : List ℕ) : Type 0 where
   first : beforeEnd s ≡ line
   taken : isBlock line ≡ true
   short : length line ≤ 9
+  long : length (part 32 0 line) ≡ 3 → ⊥
 
 block-ended : (letter switch n : ℕ) (ident : Ident) → isLetter letter ≡ true → Framed switch ident
     → Ended (blockFor switch letter n ident)
@@ -74,6 +94,7 @@ block-ended letter switch n Absent a f = record {
   first = block-first letter switch n (13 ∷ []) a;
   taken = rw (a, digit-capital switch (f .digit));
   short = omega arith;
+  long = four-long letter switch (n / 1048576 % 16) (n / 65536 % 16) _ a;
 }
 block-ended letter switch n (Given c) a f = record {
   line = letter ∷ capitalOf switch ∷ (sixOf n ++ (c ∷ []));
@@ -81,6 +102,7 @@ block-ended letter switch n (Given c) a f = record {
   first = block-first letter switch n (c ∷ 13 ∷ []) a ∙ rw (ident-no-end c (f .named));
   taken = rw (a, digit-capital switch (f .digit));
   short = omega arith;
+  long = four-long letter switch (n / 1048576 % 16) (n / 65536 % 16) _ a;
 }
 
 figures-ended : (f : Figures) → InRange f → Ended (spelling f)
@@ -94,6 +116,12 @@ figures-ended (F.inputs s w ident) h = block-ended _ s _ ident refl (h .0)
 
 ended : (s : List ℕ) (f : Figures) → Says s f → Ended s
 ended s f b = subst Ended (b .bytes) (figures-ended f (b .fits))
+
+-- The first word of a block is no name of a station's command, which has three characters.
+pub block-long : (s : List ℕ) (f : Figures) → Says s f → length (part 32 0 (beforeEnd s)) ≡ 3 → ⊥
+block-long s f b =
+    let e = ended s f b in
+    subst (λ (l : List ℕ). length (part 32 0 l) ≡ 3 → ⊥) (sym (e .first)) (e .long)
 
 -- ---- told by its figures
 

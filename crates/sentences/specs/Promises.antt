@@ -75,15 +75,15 @@ allWords zero = part 10 0 keywords
 allWords (suc n) = allWords n ++ (chars ", " ++ part 10 (suc n) keywords)
 
 -- The tables fit each other. A table has one part more than rows, for a line feed stands behind each row: 23 words, 24
--- forms, 27 sentences (0 to 26), 8 states, none of them empty; each form begins with its word, the last is all words.
+-- forms, 30 sentences (0 to 29), 8 states, none of them empty; each form begins with its word, the last is all words.
 pub record Tables : Type 0 where
   pub keyword-parts : parts 10 keywords ≡ 24
   pub form-parts : parts 10 forms ≡ 25
-  pub sentence-parts : parts 10 sentences ≡ 28
+  pub sentence-parts : parts 10 sentences ≡ 31
   pub state-parts : parts 10 states ≡ 9
   pub keywords-filled : filled 23 keywords ≡ true
   pub forms-filled : filled 24 forms ≡ true
-  pub sentences-filled : filled 27 sentences ≡ true
+  pub sentences-filled : filled 30 sentences ≡ true
   pub states-filled : filled 8 states ≡ true
   pub forms-begin : formsBegin 23 ≡ true
   pub forms-end : part 10 23 forms ≡ allWords 22

@@ -15,7 +15,8 @@ abbrev pub rows : List String → List ℕ
 rows [] = []
 rows (r ∷ rs) = chars r ++ (10 ∷ rows rs)
 
--- ---- The sentence of each number (paper 01, "Turned away"; paper 02: 22 to 24 1/14, 25 5/14, 26 6/14), from 0 on
+-- ---- The sentence of each number, from 0 on (paper 01, "Turned away"; paper 02: 22 to 24 1/14, 25 5/14, 26 6/14, 27
+-- to 29 8/14)
 
 unfoldable pub sentences : List ℕ
 sentences =
@@ -47,6 +48,9 @@ sentences =
     ∷ "a number of the entry is out of its range or longer than it need be"
     ∷ "more than 1,000,000 ticks"
     ∷ "there is nothing to carry on"
+    ∷ "no MD5230D command, or not in its form"
+    ∷ "an MD5230D command that this bench lacks"
+    ∷ "a speed of 0 or over 250,000 pps, or a distance over 524,287"
     ∷ [])
 
 -- The sentence of a number, and behind the number itself.

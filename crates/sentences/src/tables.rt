@@ -1,7 +1,7 @@
 // What the desk says in fixed words, row by row (docs/PROTOCOL.md, "From words"). A row ends with a line feed.
 
 // The sentence of each number, from 0 on.
-pub(crate) const SENTENCES: [u8; 839] = *b"accepted\n\
+pub(crate) const SENTENCES: [u8; 980] = *b"accepted\n\
     the switch is over 15 or equal to 12\n\
     a reply buffer is under 120 bytes\n\
     an input word is over FFFFFF\n\
@@ -27,7 +27,10 @@ pub(crate) const SENTENCES: [u8; 839] = *b"accepted\n\
     the journal ends within an entry\n\
     a number of the entry is out of its range or longer than it need be\n\
     more than 1,000,000 ticks\n\
-    there is nothing to carry on\n";
+    there is nothing to carry on\n\
+    no MD5230D command, or not in its form\n\
+    an MD5230D command that this bench lacks\n\
+    a speed of 0 or over 250,000 pps, or a distance over 524,287\n";
 
 // What a status says: of bits 0 and 1 together, then of each bit from 2 on.
 pub(crate) const STATES: [u8; 126] = *b"at rest\n\

@@ -3,7 +3,7 @@ ghost use Prim.Native.Nat.{_≤_};
 use digits::Digit;
 
 // The most bytes that a line has side by side.
-pub(crate) const MOST: usize = 40;
+pub(crate) const MOST: usize = 48;
 
 // The value of a capital hexadecimal digit, or 16.
 fn value(c: u8) -> u8 {

@@ -5,6 +5,7 @@ use crate::form;
 use crate::journal_lines;
 use crate::pairs;
 use crate::settings;
+use crate::station_lines;
 use crate::text::Text;
 use crate::writer;
 
@@ -51,6 +52,9 @@ pub(crate) fn answer(line: &[u8]) -> Text {
     }
     if form::at(line, 0) == b'J' {
         return journal_lines::read(line);
+    }
+    if form::at(line, 0) == b'C' {
+        return station_lines::answer(line);
     }
     blocks::answer(line)
 }

@@ -18,6 +18,7 @@ mod journal_lines;
 mod lists;
 mod pairs;
 mod settings;
+mod station_lines;
 mod text;
 mod writer;
 

@@ -2,12 +2,12 @@
 use crate::form;
 use crate::text;
 use crate::text::Text;
+use crate::writer;
 use digits::Ident;
 use figures::Asked;
 use figures::Setting;
 use figures::Units;
 use host::Request;
-use host::Written;
 use line::command::Command;
 
 // 2 to the 53, and what an exponent has added.
@@ -125,18 +125,7 @@ fn with_line(text: Text, command: Command) -> Text {
         command,
         ident: Ident::Absent,
     };
-    let mut buf = [0u8; 10];
-    let written = host::write_line(&mut buf, request);
-    match written {
-        Written::Refused(k) => text.number(k),
-        Written::Length(n) => {
-            if n == 0 {
-                return text.number(0);
-            }
-            text.characters(b"00 ")
-                .characters(block::front(&buf, n - 1))
-        }
-    }
+    writer::with_line(text, b"00 ", request)
 }
 
 fn with_asked(text: Text, asked: Asked) -> Text {

@@ -73,6 +73,22 @@ pub(crate) fn told(number: u8, length: usize, buf: &[u8]) -> Text {
     with_bytes(answer.hex(length as u64, 2), buf)
 }
 
+// The line of a request without its 0D, behind some characters; or the number that refuses it.
+pub(crate) fn with_line(text: Text, before: &[u8], request: Request) -> Text {
+    let mut buf = [0u8; 10];
+    let written = host::write_line(&mut buf, request);
+    match written {
+        Written::Refused(k) => text.number(k),
+        Written::Length(n) => {
+            if n == 0 {
+                return text.number(0);
+            }
+            text.characters(before)
+                .characters(block::front(&buf, n - 1))
+        }
+    }
+}
+
 fn written(buf: &mut [u8], request: Request) -> Text {
     let answer = host::write_line(buf, request);
     match answer {

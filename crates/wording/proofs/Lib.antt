@@ -1,7 +1,12 @@
+pub mod AnswerLineLaws
+pub mod ConvertedLaws
 pub mod MeantLengths
 pub mod OneLineLaws
 pub mod PageLaws
 pub mod ReplyLineLaws
+pub mod StationLaws
+pub mod StationLineLaws
+pub mod StationRowLaws
 pub mod ToldLaws
 pub mod TrialRowLaws
 pub mod WholeLaws

@@ -22,7 +22,11 @@ use Rattle.host.specs.Writer.{identFits, isAbsent, hasLine, letterOf, digitsOf,
 use Rattle.host.specs.declared.Request.{Request}
 use Rattle.text.specs.Decimal.{spell, decimalOf, signText}
 use Rattle.text.specs.Parts.{behind, part}
-use Rattle.wording.specs.Promises.{isLine}
+
+-- Whether a list has no line feed (10).
+unfoldable pub isLine : List ℕ → Bool
+isLine [] = true
+isLine (c ∷ cs) = cond (eqb c 10) false (isLine cs)
 
 abbrev pub Clean : List ℕ → Type 0
 Clean l = isLine l ≡ true

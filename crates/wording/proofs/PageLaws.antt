@@ -23,6 +23,7 @@ use Rattle.host.specs.Writer.{lineOf}
 use Rattle.block.specs.Block.{blockOf}
 use Rattle.figures.specs.Figures.{Answer, asks}
 use Rattle.figures.proofs.Trip.{speed-trip, slope-trip}
+use Rattle.wording.specs.Stations.{isStation}
 use Rattle.wording.specs.Wording.{sumsIn, answerText}
 use Rattle.wording.specs.Page.{
   CommandRows,
@@ -34,6 +35,7 @@ use Rattle.wording.specs.Page.{
   FormRows,
   Page,
 }
+use Rattle.wording.proofs.StationRowLaws.{stations}
 use Rattle.wording.proofs.TrialRowLaws.{trials}
 
 -- What is printed for a figure whose units crate figures has read: what it reads is no matter of computing.
@@ -43,7 +45,7 @@ asked l code units = requestText false Absent (chars l) (askedMeant (asks (Set c
 commands : CommandRows
 unfolding masterOf sixOf numberOf before behind marks same common spell decimalOf readOn noughts sentences states
     keywords forms closest placeIn meantBy commandText wordsText blockText fieldsIn readOf lineOf blockOf sumsIn
-    answerText
+    isStation answerText
 commands = record {
   start = refl;
   waiting-start = refl;
@@ -70,7 +72,7 @@ commands = record {
 marked : MarkRows
 unfolding masterOf sixOf numberOf before behind marks same common spell decimalOf readOn noughts sentences states
     keywords forms closest placeIn meantBy commandText wordsText blockText fieldsIn readOf lineOf blockOf sumsIn
-    answerText
+    isStation answerText
 marked = record {
   silent = refl;
   identification = refl;
@@ -82,7 +84,7 @@ marked = record {
 programs : ProgramRows
 unfolding masterOf sixOf numberOf before behind marks same common spell decimalOf readOn noughts sentences states
     keywords forms closest placeIn meantBy commandText wordsText blockText fieldsIn readOf lineOf blockOf sumsIn
-    answerText
+    isStation answerText
 programs = record {
   opening = refl;
   master = refl;
@@ -93,7 +95,7 @@ programs = record {
 replies : ReplyRows
 unfolding masterOf sixOf numberOf before behind marks same common spell decimalOf readOn noughts sentences states
     keywords forms closest placeIn meantBy commandText wordsText blockText fieldsIn readOf lineOf blockOf sumsIn
-    answerText
+    isStation answerText
 replies = record {
   accepted = refl;
   turned-away = refl;
@@ -129,7 +131,7 @@ replies = record {
 nearest : NearestRows
 unfolding masterOf sixOf numberOf before behind marks same common spell decimalOf readOn noughts sentences states
     keywords forms closest placeIn meantBy commandText wordsText blockText fieldsIn readOf lineOf blockOf sumsIn
-    answerText
+    isStation answerText
 nearest = record {
   capital = refl;
   letters = refl;
@@ -142,7 +144,7 @@ nearest = record {
 axes : AxisRows
 unfolding masterOf sixOf numberOf before behind marks same common spell decimalOf readOn noughts sentences states
     keywords forms closest placeIn meantBy commandText wordsText blockText fieldsIn readOf lineOf blockOf sumsIn
-    answerText
+    isStation answerText
 axes = record {
   distance-4 = refl;
   travel-3 = refl;
@@ -189,4 +191,5 @@ page = record {
   nearest = nearest;
   axes = axes;
   forms-are = forms-are;
+  stations = stations;
 }

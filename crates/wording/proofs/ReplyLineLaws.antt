@@ -1,11 +1,10 @@
--- No answer to a line has a line feed within it: replies, and all of it. Assumes nothing.
+-- No answer to a reply has a line feed within it. Assumes nothing.
 use Prim.Native.Nat.{ℕ, _%_}
 use mathlib.Core.Bool.{Bool, true, cond}
 use mathlib.Core.List.{List, [], _∷_, _++_}
 use mathlib.Core.Path.{_≡_, refl}
-use lib.Dec.{ltb, leb, eqb}
+use lib.Dec.{ltb, eqb}
 use lib.IntN.{ℤ, natAbs}
-use lib.ListN.{length}
 use Rattle.laws.specs.Axes.{isMinus}
 use Rattle.laws.specs.Bits.{bit}
 use Rattle.digits.specs.Digits.{endByte, capitalOf, sixOf}
@@ -21,9 +20,7 @@ use Rattle.reader.proofs.OnlyBlocks.{blocks-read}
 use Rattle.machine.specs.Calls.{chars}
 use Rattle.text.specs.Decimal.{decimalOf, signText}
 use Rattle.sentences.specs.Sentences.{sentences, states, sentenceText, turnedText, stateText}
-use Rattle.phrases.specs.Phrases.{wordsText, overlongText}
 use Rattle.readout.specs.Readout.{
-  isBlock,
   verdictText,
   directionText,
   travelText,
@@ -42,10 +39,8 @@ use Rattle.readout.specs.Readout.{
   figureText,
   blockText,
 }
-use Rattle.wording.specs.Wording.{areSums, answerText}
-use Rattle.wording.specs.Promises.{isLine, OneLine}
-use Rattle.wording.proofs.OneLineLaws.{Clean, one, join, either, row, decimal, sign, capital, six, named}
-use Rattle.wording.proofs.WordLineLaws.{turned, said, overlong}
+use Rattle.wording.proofs.OneLineLaws.{isLine, Clean, one, join, either, row, decimal, sign, capital, six, named}
+use Rattle.wording.proofs.WordLineLaws.{turned}
 
 -- ---- replies
 
@@ -141,16 +136,6 @@ figure s (F.placed d k z i) h =
     join (positionText k z) (originText d i) (position k z) (origin d i (h .fits .0 .named))
 figure s (F.inputs d w i) h = join (inputsText w) (originText d i) (inputs w) (origin d i (h .fits .0 .named))
 
-block : (l : List ℕ) → Clean (blockText l)
+pub block : (l : List ℕ) → Clean (blockText l)
 unfolding blockText
 block l = figure (l ++ (endByte ∷ [])) (readOf (l ++ (endByte ∷ []))) (blocks-read .only (l ++ (endByte ∷ [])))
-
--- ---- all of it
-
-pub one-line : OneLine
-unfolding answerText isLine
-one-line l h =
-    let w = cond (areSums l) (chars "pulses " ++ l) (wordsText l) in
-    either (leb 100 (length l)) (overlongText l) (cond (isBlock l) (blockText l) w) (overlong l)
-    (either (isBlock l) (blockText l) w (block l)
-    (either (areSums l) (chars "pulses " ++ l) (wordsText l) h (said l)))

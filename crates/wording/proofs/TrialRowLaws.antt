@@ -13,6 +13,7 @@ use Rattle.text.proofs.DecimalLaws.{decimal-more}
 use Rattle.numerals.specs.Numerals.{readOn}
 use Rattle.sentences.specs.Sentences.{sentences, keywords, placeIn}
 use Rattle.phrases.specs.Phrases.{trialLineText, wordsText}
+use Rattle.wording.specs.Stations.{isStation}
 use Rattle.wording.specs.Wording.{answerText}
 use Rattle.wording.specs.Page.{TrialRows}
 
@@ -35,7 +36,7 @@ million =
 -- ---- The rows
 
 alone-text : answerText (chars "trial 0") ≡ trialLineText 0 1000000 0
-unfolding before behind marks same readOn keywords placeIn wordsText answerText
+unfolding before behind marks same readOn keywords placeIn wordsText isStation answerText
 alone-text = refl
 
 alone-ends : chars "D " ++ (decimalOf 0 ++ (chars " " ++ (chars "1000000" ++ (chars " " ++ sixOf 0))))
@@ -50,7 +51,8 @@ alone-row =
     ∙ alone-ends)
 
 pub trials : TrialRows
-unfolding sixOf before behind marks same spell decimalOf readOn sentences keywords placeIn wordsText answerText
+unfolding sixOf before behind marks same spell decimalOf readOn sentences keywords placeIn wordsText isStation
+    answerText
 trials = record {
   alone = alone-row;
   with-ticks = refl;

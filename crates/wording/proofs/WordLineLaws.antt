@@ -56,8 +56,7 @@ use Rattle.phrases.specs.Phrases.{
   wordsText,
   overlongText,
 }
-use Rattle.wording.specs.Promises.{isLine}
-use Rattle.wording.proofs.OneLineLaws.{Clean, join, either, first-part, row, decimal, six, line-clean}
+use Rattle.wording.proofs.OneLineLaws.{isLine, Clean, join, either, first-part, row, decimal, six, line-clean}
 
 -- ---- fixed words
 
@@ -71,7 +70,7 @@ question w = row (closest wordCount w) forms
 
 -- ---- words
 
-line : (r : Request) → Clean (lineText r)
+pub line : (r : Request) → Clean (lineText r)
 line r =
     by-bool Clean (hasLine r) (part endByte 0 (lineOf r)) (turnedText 19)
     (λ h. first-part endByte (lineOf r) (line-clean r h)) (λ _. turned 19)

@@ -21,6 +21,7 @@ use Rattle.readout.specs.Readout.{isBlock, blockText}
 use Rattle.machine.specs.Calls.{chars}
 use Rattle.wording.specs.declared.Desk.{Desk}
 use Rattle.wording.specs.declared.Taken.{Taken}
+use Rattle.wording.specs.Stations.{isStation, stationText}
 use Rattle.wording.specs.Wording.{
   areSums,
   answerText,
@@ -40,18 +41,22 @@ pub overlong-is : (l : List ℕ) → 100 ≤ length l → answerText l ≡ overl
 unfolding answerText
 overlong-is l h = rw (le-leb 100 (length l) h) refl
 
-pub block-is : (l : List ℕ) → length l < 100 → isBlock l ≡ true → answerText l ≡ blockText l
+pub station-is : (l : List ℕ) → length l < 100 → isStation l ≡ true → answerText l ≡ stationText l
 unfolding answerText
-block-is l h e = rw (lt-leb 100 (length l) h, e) refl
+station-is l h e = rw (lt-leb 100 (length l) h, e) refl
 
-pub sums-are : (l : List ℕ) → length l < 100 → isBlock l ≡ false → areSums l ≡ true
-    → answerText l ≡ chars "pulses " ++ l
-unfolding answerText
-sums-are l h e q = rw (lt-leb 100 (length l) h, e, q) refl
+module _ (l : List ℕ) (h : length l < 100) (s : isStation l ≡ false) where
+  pub block-is : isBlock l ≡ true → answerText l ≡ blockText l
+  unfolding answerText
+  block-is e = rw (lt-leb 100 (length l) h, s, e) refl
 
-pub words-are : (l : List ℕ) → length l < 100 → isBlock l ≡ false → areSums l ≡ false → answerText l ≡ wordsText l
-unfolding answerText
-words-are l h e q = rw (lt-leb 100 (length l) h, e, q) refl
+  pub sums-are : isBlock l ≡ false → areSums l ≡ true → answerText l ≡ chars "pulses " ++ l
+  unfolding answerText
+  sums-are e q = rw (lt-leb 100 (length l) h, s, e, q) refl
+
+  pub words-are : isBlock l ≡ false → areSums l ≡ false → answerText l ≡ wordsText l
+  unfolding answerText
+  words-are e q = rw (lt-leb 100 (length l) h, s, e, q) refl
 
 -- ---- the line that is held
 
@@ -60,8 +65,12 @@ front-seam a b n e =
     ap (frontOf (a ++ b)) e
     ∙ rw (le-leb (length a) (length (a ++ b)) (omega (arith, length-append a b))) (take-append-seam a b)
 
-pub held-line : (l : List ℕ) → heldLine (deskOf l) ≡ take 250 l
+held-line : (l : List ℕ) → heldLine (deskOf l) ≡ take 250 l
 held-line l = front-seam (take 250 l) (replicate (250 - length l) 0) (min 250 (length l)) (sym (length-take 250 l))
+
+-- All of it, where a text has room for it.
+pub held-whole : (l : List ℕ) → length l ≤ 250 → heldLine (deskOf l) ≡ l
+held-whole l h = held-line l ∙ take-all 250 l h
 
 -- ---- the answer to it
 

@@ -1,3 +1,5 @@
 pub mod Page
 pub mod Promises
+pub mod StationPage
+pub mod Stations
 pub mod Wording

@@ -1,11 +1,12 @@
 -- The examples of docs/PROTOCOL.md, "From words": what the desk answers to each line, computed; but for the row of all
--- words, which `Tables` of crate sentences has. They tie the words to the codes and letters of paper 01, whatever the
--- tables of the code and of these specs have in common.
+-- words, which `Tables` of crate sentences has. Those of a station's commands are in `StationPage`. They tie the words
+-- to the codes and letters of paper 01, whatever the tables of the code and of these specs have in common.
 use mathlib.Core.Path.{_≡_}
 use Rattle.machine.specs.Calls.{chars}
 use Rattle.text.specs.Parts.{part}
 use Rattle.sentences.specs.Places as K
 use Rattle.sentences.specs.Sentences.{forms}
+use Rattle.wording.specs.StationPage.{StationPage}
 use Rattle.wording.specs.Wording.{answerText}
 
 -- Each command in words, and the line that is printed.
@@ -140,3 +141,4 @@ pub record Page : Type 0 where
   pub nearest : NearestRows
   pub axes : AxisRows
   pub forms-are : FormRows
+  pub stations : StationPage

@@ -1,9 +1,9 @@
 -- What the desk promises of every line and of every input.
 use Prim.Native.Nat.{ℕ, _≤_, _<_}
-use mathlib.Core.Bool.{Bool, true, false, cond}
+use mathlib.Core.Bool.{Bool, true, false, cond, _&&_}
 use mathlib.Core.List.{List, [], _∷_, _++_}
 use mathlib.Core.Path.{_≡_}
-use lib.Dec.{eqb}
+use lib.Dec.{ltb, eqb}
 use lib.ListN.{length}
 use Rattle.digits.specs.Digits.{endByte}
 use Rattle.digits.specs.declared.Number.the-variants.{Value}
@@ -19,34 +19,46 @@ use Rattle.screen.specs.declared.asked.Asked.the-variants.{Trial}
 use Rattle.numerals.specs.Numerals.{spelledOf}
 use Rattle.numerals.specs.declared.Spelled.the-variants.{Number}
 use Rattle.sentences.specs.Places as K
-use Rattle.sentences.specs.Sentences.{placeOf}
+use Rattle.sentences.specs.Sentences.{placeOf, turnedText}
 use Rattle.phrases.specs.declared.meaning.Meant.the-variants as M
 use Rattle.phrases.specs.Meanings.{word, words, meantBy}
 use Rattle.phrases.specs.Phrases.{bodyOf, numberAt}
 use Rattle.phrases.specs.Promises.{requestIn}
 use Rattle.readout.specs.Readout.{isBlock, figureText}
+use Rattle.station.specs.Executed.{written}
+use Rattle.station.specs.Station.{numberOf, valuesIn}
+use Rattle.text.specs.Parts.{parts}
 use Rattle.text.specs.declared.Text.{Text}
 use Rattle.wording.specs.declared.Desk.{Desk}
+use Rattle.wording.specs.Stations.{isStation, commandIn}
 use Rattle.wording.specs.Wording.{areSums, answerText, answerOf, deskOf, takenOf, finishedOf}
 
 -- No answer is cut: a text has room for 250 bytes, and each answer fits with its line feed.
 abbrev pub Whole : Type 0
 Whole = (l : List ℕ) → length (answerOf l) ≤ 250
 
--- Whether a list has no line feed (10).
-unfoldable pub isLine : List ℕ → Bool
-isLine [] = true
-isLine (c ∷ cs) = cond (eqb c 10) false (isLine cs)
+-- Whether a line is a station's command that is converted.
+abbrev pub isConverted : List ℕ → Bool
+isConverted l = ltb (length l) 100 && (isStation l && eqb (numberOf (commandIn l)) 0)
 
--- Each line is answered with one line.
-abbrev pub OneLine : Type 0
-OneLine = (l : List ℕ) → isLine l ≡ true → isLine (answerText l) ≡ true
+-- How many lines answer it: then one for each command value, else one.
+abbrev pub linesTo : List ℕ → ℕ
+linesTo l = cond (isConverted l) (length (valuesIn (commandIn l))) 1
+
+-- To a line, which has no line feed (10) and so one part, the answer has so many lines.
+abbrev pub AnswerLines : Type 0
+AnswerLines = (l : List ℕ) → parts 10 l ≡ 1 → parts 10 (answerText l) ≡ linesTo l
 
 -- ---- What a whole line is answered with
 
 -- A line that is neither over-long, nor a block, nor five sums.
 abbrev pub Wordy : List ℕ → Type 0
 Wordy l = (length l < 100) × (isBlock l ≡ false) × (areSums l ≡ false)
+
+-- What is printed as the bench program takes it: a line feed goes in as 0D.
+unfoldable pub entered : List ℕ → List ℕ
+entered [] = []
+entered (c ∷ cs) = cond (eqb c 10) endByte c ∷ entered cs
 
 -- Blocks by their figures, words by the line that they ask for. `requestIn`, what the bench reads as ticks (session's
 -- `ticksBy n (Value w false)`, which is `Ticks n w`) and what the preview reads as a trial (`askedOf` of screen) are
@@ -76,6 +88,11 @@ pub record Told : Type 0 where
   -- and with a master alone, by 1,000,000 ticks
   pub trial-alone : (l : List ℕ) (k : ℕ) → Wordy l → placeOf (word 0 l) ≡ K.trial → words l ≡ 2
       → spelledOf 10 (word 1 l) ≡ Number k → k ≤ 4 → screen.askedOf (answerText l) ≡ Trial k 1000000 0
+  -- a station's command that is converted is answered with the very lines of its command values, in order
+  pub station : (l : List ℕ) → isConverted l ≡ true → entered (answerOf l) ≡ written (valuesIn (commandIn l))
+  -- and any other with the number that turns it away
+  pub station-refused : (l : List ℕ) → length l < 100 → isStation l ≡ true → (numberOf (commandIn l) ≡ 0 → ⊥)
+      → answerText l ≡ turnedText (numberOf (commandIn l))
 
 -- ---- A whole input
 

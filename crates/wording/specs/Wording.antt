@@ -17,6 +17,7 @@ use Rattle.phrases.specs.Phrases.{wordsText, overlongText}
 use Rattle.readout.specs.Readout.{isBlock, blockText}
 use Rattle.wording.specs.declared.Desk.{Desk}
 use Rattle.wording.specs.declared.Taken.{Taken}
+use Rattle.wording.specs.Stations.{isStation, stationText}
 
 -- ---- Five sums, with one space (32) between two of them
 
@@ -38,16 +39,17 @@ sumsIn (suc n) l = andSum (sumsIn n l) l n
 abbrev pub areSums : List ℕ → Bool
 areSums l = cond (eqb (parts 32 l) 5) (sumsIn 5 l) false
 
--- ---- What a line is, the first that applies: over-long, a block, five sums, words
+-- ---- What a line is, the first that applies: over-long, a station's command, a block, five sums, words
 
 unfoldable pub answerText : List ℕ → List ℕ
 answerText l =
     cond (leb 100 (length l)) (overlongText l)
+    (cond (isStation l) (stationText l)
     (cond (isBlock l) (blockText l)
     (cond (areSums l) (chars "pulses " ++ l)
-    (wordsText l)))
+    (wordsText l))))
 
--- One line, with its line feed (10).
+-- A line feed (10) ends it.
 abbrev pub answerOf : List ℕ → List ℕ
 answerOf l = answerText l ++ (10 ∷ [])
 

@@ -1,11 +1,11 @@
 // What the program `desk` does with its input (docs/PROTOCOL.md, "From words"), a byte at a time, on values: each line
-// is answered with one line, whatever bytes it has and however long it is.
+// is answered at once, whatever bytes it has and however long it is.
 // Every public function is total: it has no premise and states its result for every input. Assumes nothing.
 ghost use mathlib.Core.List.{[]};
 ghost use mathlib.Core.Path.{_≡_};
 ghost use Rattle.text.specs.Text.{holding, writes};
 ghost use Rattle.wording.specs.Page.{Page};
-ghost use Rattle.wording.specs.Promises.{Whole, OneLine, Told, AnswersInOrder};
+ghost use Rattle.wording.specs.Promises.{Whole, AnswerLines, Told, AnswersInOrder};
 ghost use Rattle.wording.specs.Wording.{
   isSigned,
   isSumAt,
@@ -28,6 +28,8 @@ use text::FEED;
 use text::SPACE;
 use text::Text;
 use text::parts;
+
+mod stations;
 
 // The characters since the last line feed.
 pub struct Desk {
@@ -99,6 +101,9 @@ fn answer_text(text: Text, line: &[u8]) -> Text
     if OVERLONG <= line.len() {
         return phrases::overlong(text, line);
     }
+    if stations::is_station(line) {
+        return stations::station(text, line);
+    }
     if readout::is_block(line) {
         return readout::block(text, line);
     }
@@ -109,12 +114,12 @@ fn answer_text(text: Text, line: &[u8]) -> Text
     phrases::words(text, line)
 }
 
-// The answer to a line, with its line feed. That no answer is cut, that each is one line, that replies are told by
+// The answer to a line, with its line feed. That no answer is cut, how many lines each has, that replies are told by
 // their figures and commands by their lines, and the examples of docs/PROTOCOL.md, stand here as promises.
 pub fn answer(line: &[u8]) -> Text
     ensures { λ r. ⌜ r ≡ holding (answerOf (now (line .entry))) ⌝ }
     ensures { λ _. ⌜ Whole ⌝ }
-    ensures { λ _. ⌜ OneLine ⌝ }
+    ensures { λ _. ⌜ AnswerLines ⌝ }
     ensures { λ _. ⌜ Told ⌝ }
     ensures { λ _. ⌜ Page ⌝ }
 {

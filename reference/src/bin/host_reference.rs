@@ -1,4 +1,4 @@
-//! Stored vectors, of the host end and of the journal: standard input to standard output.
+//! Stored vectors, of the host end, of the converter and of the journal: standard input to standard output.
 
 fn main() -> std::io::Result<()> {
     reference::streams::on_standard_streams(reference::vectors::run)

@@ -1,4 +1,4 @@
-//! From words, rule 5: the nearest form.
+//! From words, rule 6: the nearest form.
 
 /// From words: each word and its forms, in the order of the tables.
 pub const FORMS: [(&str, &str); 23] = [
@@ -33,7 +33,7 @@ fn common_letters(word: &[u8], other: &[u8]) -> usize {
 }
 
 /// From words: the first word is what stands before the first space.
-fn first_word(body: &[u8]) -> &[u8] {
+pub(super) fn first_word(body: &[u8]) -> &[u8] {
     body.split(|&character| character == b' ').next().unwrap_or(body)
 }
 

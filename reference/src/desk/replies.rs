@@ -15,7 +15,7 @@ const OTHER_BITS: [(u32, &str); 5] = [
     (6, "stopped by the sensor"),
 ];
 
-/// From words, rule 2: U, S, s or R and then 0-9 or A-F.
+/// From words, rule 3: U, S, s or R and then 0-9 or A-F.
 pub(super) fn begins_as_block(line: &[u8]) -> bool {
     match line {
         [b'U' | b'S' | b's' | b'R', second, ..] => capital_digit_value(*second).is_some(),

@@ -1,7 +1,7 @@
 //! From words: the sentence of each number.
 
-/// From words: the sentences of numbers 1 to 26, in this order.
-pub const SENTENCES: [&str; 26] = [
+/// From words: the sentences of numbers 1 to 29, in this order.
+pub const SENTENCES: [&str; 29] = [
     "the switch is over 15 or equal to 12",
     "a reply buffer is under 120 bytes",
     "an input word is over FFFFFF",
@@ -28,9 +28,12 @@ pub const SENTENCES: [&str; 26] = [
     "a number of the entry is out of its range or longer than it need be",
     "more than 1,000,000 ticks",
     "there is nothing to carry on",
+    "no MD5230D command, or not in its form",
+    "an MD5230D command that this bench lacks",
+    "a speed of 0 or over 250,000 pps, or a distance over 524,287",
 ];
 
-/// From words: a number from 1 to 26 with its sentence behind it.
+/// From words: a number from 1 to 29 with its sentence behind it.
 pub(crate) fn turned_away(number: u8) -> String {
     format!("turned away by {number}: {}", SENTENCES[number as usize - 1])
 }

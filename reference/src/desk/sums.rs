@@ -1,4 +1,4 @@
-//! From words, rule 3: the five sums that the bench program prints.
+//! From words, rule 4: the five sums that the bench program prints.
 
 use super::numbers::{decimal, unsigned};
 use crate::fields::split;

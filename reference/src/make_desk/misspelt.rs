@@ -1,8 +1,9 @@
-//! From words, rule 5: misspelt words, and first letters that several words have.
+//! From words, rule 6: misspelt words, and first letters that several words have.
 
 use super::lines::Lines;
 
-/// From words: first letters from one to a whole word and beyond, capitals and small letters.
+/// From words: first letters from one to a whole word and beyond, capitals and small letters. The capitals `STA` are a
+/// station's command to rule 2.
 const WORDS: [&str; 62] = [
     "S",
     "st",

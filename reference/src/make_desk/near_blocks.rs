@@ -2,7 +2,7 @@
 
 use super::lines::Lines;
 
-/// From words: lines that begin as a block (rule 2), each with one thing wrong.
+/// From words: lines that begin as a block (rule 3), each with one thing wrong. `SEE` is a station's command to rule 2.
 const NO_BLOCKS: [&str; 46] = [
     "U0",
     "U00",
@@ -52,7 +52,7 @@ const NO_BLOCKS: [&str; 46] = [
     "S060000bA",
 ];
 
-/// From words: lines that rule 2 leaves to the rules behind it.
+/// From words: lines that rule 3 leaves to the rules behind it.
 const OTHERS: [&str; 15] = [
     "U",
     "U 0000000",

@@ -1,4 +1,4 @@
-//! From words, rule 3: five sums, and lines that are none.
+//! From words, rule 4: five sums, and lines that are none.
 
 use super::lines::Lines;
 

@@ -10,6 +10,7 @@ pub mod programs;
 pub mod refused;
 pub mod sequence;
 pub mod settled;
+pub mod station;
 pub mod stopped;
 pub mod stored_lists;
 pub mod sums;

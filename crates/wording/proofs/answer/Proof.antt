@@ -6,7 +6,7 @@ use Rattle.text.specs.declared.Text.{Text}
 use Rattle.text.proofs.TextLaws.{writes-last, writes-holding}
 use Rattle.wording.specs.Wording.{answerText, answerOf}
 use Rattle.wording.proofs.PageLaws.{page}
-use Rattle.wording.proofs.ReplyLineLaws.{one-line}
+use Rattle.wording.proofs.AnswerLineLaws.{answer-lines}
 use Rattle.wording.proofs.ToldLaws.{told}
 use Rattle.wording.proofs.WholeLaws.{whole}
 use borrow.Author.Needs.{needs}
@@ -29,7 +29,7 @@ returns c =
           (c .before .answer-text .ensures
           ∙ ap (λ (t : Text). writes t (answerText l)) (c .before .before .new .ensures)) (c .with .ensures)
           ∙ writes-holding [] (answerOf l),
-      (whole, (one-line, (told, page))),
+      (whole, (answer-lines, (told, page))),
     )
 
 pub answer-spec : {M : Type 1} → statement M

@@ -7,10 +7,10 @@ use Rattle.vectors.proofs.form.bytes.Statement.{statement}
 use Rattle.vectors.proofs.form.bytes.Tie as tie
 
 abbrev Inv-loop : tie.InvT-loop
-Inv-loop line from bytes₀ i₀ bytes i = (i ≤ 40) × (40 ≡ length bytes)
+Inv-loop line from bytes₀ i₀ bytes i = (i ≤ 48) × (48 ≡ length bytes)
 
 abbrev μ-loop : tie.MeasureT-loop
-μ-loop line from bytes₀ i₀ bytes i = 40 - i
+μ-loop line from bytes₀ i₀ bytes i = 48 - i
 
 loop-holds : tie.Need-loop-holds Inv-loop μ-loop
 loop-holds c = search needs

@@ -1,0 +1,9 @@
+pub mod Names
+pub mod Forms
+pub mod Station
+pub mod Spelled
+pub mod Examples
+pub mod Writable
+pub mod Executed
+pub mod Witness
+pub mod Held
