@@ -1,14 +1,12 @@
 -- One call that is not turned away, begins no stop and no foreign move: a tick, a character of a line, and the 0D of a
 -- line with one of the converter's commands. Assumes nothing.
-use Prim.Native.Nat.{ℕ, _<_}
-use mathlib.Core.Bool.{Bool, true, false, cond, not, _&&_, false≢true}
+use Prim.Native.Nat.{ℕ}
+use mathlib.Core.Bool.{Bool, true, false, cond, not, false≢true}
 use mathlib.Core.List.{List, [], _∷_, _++_}
 use mathlib.Core.Path.{_≡_, refl, sym, ap, subst, _∙_}
-use native.Mathlib.Omega.{arith}
-use borrow.Author.Tests.{eqb-true, eqb-false, not-true, not-false}
+use borrow.Author.Tests.{eqb-true, not-false}
 use lib.Dec.{eqb}
-use lib.IntN.{ℤ, pos}
-use Rattle.laws.proofs.Tests.{true-false, both}
+use lib.IntN.{pos}
 use Rattle.digits.specs.Digits.{endByte}
 use Rattle.digits.specs.declared.Ident.{Ident}
 use Rattle.line.specs.declared.command.Command.{Command}
@@ -16,28 +14,17 @@ use Rattle.line.specs.declared.Judged.the-variants.{Accepted}
 use Rattle.receiver.specs.declared.Heard.{Heard}
 use Rattle.receiver.specs.declared.Heard.the-variants.{Character, Line}
 use Rattle.receiver.specs.Receiver.{Receipt, heardLine, receive}
-use Rattle.machine.specs.State.{Plan, Machine}
+use Rattle.machine.specs.State.{Machine}
 use Rattle.machine.specs.Commands.{number}
-use Rattle.machine.specs.Steps.{
-  Outcome,
-  untaken,
-  gathered,
-  refused,
-  accepted,
-  outcomeOf,
-  outcome,
-  answered,
-  byteStep,
-  isShort,
-}
+use Rattle.machine.specs.Steps.{Outcome, untaken, gathered, refused, accepted, outcomeOf, outcome, answered, isShort}
 use Rattle.machine.specs.Calls.{Call, byte, tick, run, state}
-use Rattle.machine.specs.Roles.{roleBy, startBy, begins, stopsIn, sent}
-use Rattle.machine.specs.List.{effect, paused}
+use Rattle.machine.specs.Roles.{roleBy, startBy, begins, stopsIn}
+use Rattle.machine.specs.List.{paused}
 use Rattle.machine.specs.Identified.{received}
 use Rattle.machine.proofs.CalledLaws.{Called}
 use Rattle.machine.proofs.FitLaws.{fits}
 use Rattle.machine.proofs.IdentifiedLaws.{received-is}
-use Rattle.machine.proofs.ListLaws.{by-flag, told}
+use Rattle.machine.proofs.ListLaws.{told}
 use Rattle.machine.proofs.Told.{called-on}
 use Rattle.station.specs.Executed.{isRefused, isForeign}
 use Rattle.station.proofs.CommandLaws.{isPlain, planned, added, Unstopped, Leaves, idles, obeys}

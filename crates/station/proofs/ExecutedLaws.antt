@@ -1,28 +1,25 @@
 -- Converted commands, written as lines and executed, move exactly the distances named (specs/Executed.antt). Assumes
 -- nothing.
-use Prim.Native.Nat.{ℕ, zero, suc, _-_, _*_, _≤_, _<_}
-use mathlib.Core.Bool.{Bool, true, false, cond, not, _&&_, _||_}
+use Prim.Native.Nat.{ℕ, _-_, _*_, _<_}
+use mathlib.Core.Bool.{Bool, true, false, cond, _&&_}
 use mathlib.Core.List.{List, [], _∷_, _++_, append-assoc}
-use mathlib.Core.Path.{_≡_, refl, sym, ap, subst, _∙_}
+use mathlib.Core.Path.{_≡_, refl, sym, ap, _∙_}
 use native.Mathlib.Omega.{arith}
 use borrow.Author.Tests.{eqb-true, ltb-false, eqb-false, lt-ltb, le-leb}
-use lib.Dec.{ltb, leb, eqb}
+use lib.Dec.{ltb, eqb}
 use lib.IntN.{ℤ, pos, negsuc, _+ℤ_, +ℤ-idr, +ℤ-idl, natAbs}
+use lib.Seq.{take-append-seam}
 use Rattle.laws.specs.Axes.{directed, isMinus}
 use Rattle.laws.proofs.Five.{five}
 use Rattle.laws.proofs.Directed.{no-step}
 use Rattle.laws.proofs.Tests.{true-false, both, neither}
-use Rattle.line.specs.Ranges.{isWithin}
-use Rattle.machine.specs.State.{Plan, Machine}
+use Rattle.machine.specs.State.{Plan}
 use Rattle.machine.specs.Calls.{Call, state}
 use Rattle.machine.specs.List.{goesOn, position}
 use Rattle.machine.proofs.IdentifiedLaws.{received-is}
-use Rattle.machine.proofs.ListLaws.{by-flag, told}
-use Rattle.host.specs.RoundTrip.{heardAll}
+use Rattle.machine.proofs.ListLaws.{told}
 use Rattle.host.specs.Writer.{hasLine, lineOf}
 use Rattle.host.specs.declared.Request.{Request}
-use Rattle.host.proofs.LineTrips.{line-trip}
-use Rattle.host.specs.Master.{masterOf}
 use Rattle.host.proofs.MasterLaws.{master-longest}
 use Rattle.station.specs.Forms.{Form, other, speed, move, stop, formOf}
 use Rattle.station.specs.Station.{
@@ -33,6 +30,7 @@ use Rattle.station.specs.Station.{
   isFar,
   numberOf,
   valuesIn,
+  convertOf,
   picked,
 }
 use Rattle.station.specs.Executed.{
@@ -40,14 +38,15 @@ use Rattle.station.specs.Executed.{
   namedBy,
   named,
   areConverted,
+  answered,
   written,
   linesOf,
   onto,
   Executed,
   Executes,
 }
-use Rattle.station.proofs.DueLaws.{ahead, due}
-use Rattle.station.proofs.CommandLaws.{isPlain, planned, added, Unstopped}
+use Rattle.station.proofs.DueLaws.{due}
+use Rattle.station.proofs.CommandLaws.{isPlain}
 use Rattle.station.proofs.LinesLaws.{arePlain, total, in-lines}
 
 -- ---- The values of a form in its ranges
@@ -55,11 +54,11 @@ use Rattle.station.proofs.LinesLaws.{arePlain, total, in-lines}
 both-true : (a b : Bool) → a ≡ true → b ≡ true → a && b ≡ true
 both-true a b p q = (λ i. p i && q i)
 
-near : (z : ℤ) → isFar z ≡ false → ltb (natAbs z) 524288 ≡ true
+pub near : (z : ℤ) → isFar z ≡ false → ltb (natAbs z) 524288 ≡ true
 near z e = let h = ltb-false 524287 (natAbs z) e in lt-ltb (natAbs z) 524288 (omega (arith, h))
 
 -- The start names one of the five axes.
-axis-picked : (x y : ℤ) → ltb (picked x y) 5 ≡ true
+pub axis-picked : (x y : ℤ) → ltb (picked x y) 5 ≡ true
 axis-picked x y = lt-ltb (picked x y) 5 (master-longest (natAbs x ∷ natAbs y ∷ 0 ∷ 0 ∷ 0 ∷ []) .axis)
 
 -- Each has a line, and is plain.
@@ -78,7 +77,7 @@ plain-values stop e = refl
 
 -- ---- What they add
 
-directed-back : (z : ℤ) → directed (isMinus z) (natAbs z) ≡ z
+pub directed-back : (z : ℤ) → directed (isMinus z) (natAbs z) ≡ z
 directed-back (pos n) = refl
 directed-back (negsuc n) = refl
 
@@ -104,6 +103,17 @@ adds-named (move x y) rs t k l h p =
     (λ g. five-none (pos 0) (pos 0) _ _ refl (g _))
     k l h
 
+-- ---- The answer
+
+-- Its first places hold the values.
+pub answered-is : (c : List ℕ) → answered c ≡ valuesIn c
+unfolding convertOf
+answered-is c = take-append-seam (valuesIn c) _
+
+pub number-is : (c : List ℕ) → convertOf c .number ≡ numberOf c
+unfolding convertOf
+number-is c = refl
+
 -- ---- A list of commands
 
 -- The values of all.
@@ -112,7 +122,7 @@ allValues [] = []
 allValues (c ∷ cs) = valuesIn c ++ allValues cs
 
 -- A command that no number turns away has the values of its form, which is in its ranges.
-in-range : (c : List ℕ) → numberOf c ≡ 0 → isOut (formOf c) ≡ false
+pub in-range : (c : List ℕ) → numberOf c ≡ 0 → isOut (formOf c) ≡ false
 unfolding numberOf
 in-range c e = by-tests (isUnknown c) (isLacked c) (isOut (formOf c)) e
   where
@@ -122,7 +132,7 @@ in-range c e = by-tests (isUnknown c) (isLacked c) (isOut (formOf c)) e
     by-tests false false true f = absurd (omega (arith, f))
     by-tests false false false f = refl
 
-values-are : (c : List ℕ) → numberOf c ≡ 0 → valuesIn c ≡ valuesOf (formOf c)
+pub values-are : (c : List ℕ) → numberOf c ≡ 0 → valuesIn c ≡ valuesOf (formOf c)
 unfolding valuesIn
 values-are c e = λ i. cond (eqb (e i) 0) (valuesOf (formOf c)) []
 
@@ -139,7 +149,7 @@ unfolding allValues areConverted
 all-plain [] e = plain-values other refl
 all-plain (c ∷ cs) e =
     let a = both _ _ e in
-    let n = eqb-true (numberOf c) 0 (a .0) in
+    let n = sym (number-is c) ∙ eqb-true (convertOf c .number) 0 (a .0) in
     plain-joined (valuesIn c) (allValues cs)
     (ap arePlain (values-are c n) ∙ plain-values (formOf c) (in-range c n)) (all-plain cs (a .1))
 
@@ -153,7 +163,7 @@ all-lines : (cs : List (List ℕ)) → linesOf cs ≡ written (allValues cs)
 unfolding linesOf allValues written
 all-lines [] = refl
 all-lines (c ∷ cs) =
-    ap (λ (l : List ℕ). written (valuesIn c) ++ l) (all-lines cs) ∙ sym (written-joined (valuesIn c) (allValues cs))
+    (λ i. written (answered-is c i) ++ all-lines cs i) ∙ sym (written-joined (valuesIn c) (allValues cs))
 
 all-named : (cs : List (List ℕ)) (k : ℕ) → k < 5 → areConverted cs ≡ true → (p : Plan)
     → total (allValues cs) p k ≡ named cs k
@@ -161,7 +171,8 @@ unfolding allValues areConverted named total
 all-named [] k l e p = refl
 all-named (c ∷ cs) k l e p =
     let a = both _ _ e in
-    ap (λ (rs : List Request). total (rs ++ allValues cs) p k) (values-are c (eqb-true (numberOf c) 0 (a .0)))
+    ap (λ (rs : List Request). total (rs ++ allValues cs) p k)
+    (values-are c (sym (number-is c) ∙ eqb-true (convertOf c .number) 0 (a .0)))
     ∙ adds-named (formOf c) (allValues cs) (named cs k) k l (all-named cs k l (a .1)) p
 
 -- Where no move runs, an axis stands where it will.

@@ -16,4 +16,8 @@ pub mod CallLaws
 pub mod LinesLaws
 pub mod ExecutedLaws
 pub mod WritableLaws
+pub mod PlaceLaws
 pub mod WitnessLaws
+pub mod AcceptedLaws
+pub mod StartLaws
+pub mod TakenLaws

@@ -1,7 +1,7 @@
 -- The lists of specs/Witness.antt, computed. Assumes nothing.
 use mathlib.Core.Path.{refl}
 use Rattle.machine.specs.Calls.{run}
-use Rattle.machine.specs.List.{goesOn, paused, lastDwell}
+use Rattle.machine.specs.List.{goesOn, paused, lastDwell, stopBegun, latest}
 use Rattle.machine.specs.Identified.{received}
 use Rattle.digits.specs.Digits.{numberOf as digitsNumber, sixOf}
 use Rattle.block.specs.Block.{blockOf}
@@ -12,15 +12,15 @@ use Rattle.text.specs.Parts.{behind, marks, same}
 use Rattle.receiver.specs.Receiver.{before}
 use Rattle.station.specs.Names.{names, isAmong}
 use Rattle.station.specs.Forms.{areDigits, joined, formOf}
-use Rattle.station.specs.Station.{numberOf, valuesIn}
+use Rattle.station.specs.Station.{numberOf, valuesIn, convertOf}
 use Rattle.station.specs.Executed.{areConverted, written, linesOf, onto, bytesIn, isUndisturbed}
-use Rattle.station.specs.Witness.{calls, Witness}
+use Rattle.station.specs.Witness.{calls, Whole, Paces, Halts, Witness}
 
-pub witness : Witness
+whole : Whole
 unfolding judgeOf digitsNumber judgeRow blockOf sixOf run goesOn paused lastDwell received lineOf masterOf behind
-    marks same before names isAmong areDigits joined formOf numberOf valuesIn areConverted written linesOf onto bytesIn
-    isUndisturbed calls
-witness = record {
+    marks same before names isAmong areDigits joined formOf numberOf valuesIn convertOf areConverted written linesOf
+    onto bytesIn isUndisturbed calls stopBegun latest
+whole = record {
   executed = record {
     fresh = refl;
     rests = refl;
@@ -31,3 +31,18 @@ witness = record {
   };
   moved = refl;
 }
+
+paces : Paces
+unfolding judgeOf digitsNumber judgeRow blockOf sixOf run goesOn paused lastDwell received lineOf masterOf behind
+    marks same before names isAmong areDigits joined formOf numberOf valuesIn convertOf areConverted written linesOf
+    onto bytesIn isUndisturbed calls stopBegun latest
+paces = record { one = refl; before = refl; two = refl; still = refl; ended = refl }
+
+halts : Halts
+unfolding judgeOf digitsNumber judgeRow blockOf sixOf run goesOn paused lastDwell received lineOf masterOf behind
+    marks same before names isAmong areDigits joined formOf numberOf valuesIn convertOf areConverted written linesOf
+    onto bytesIn isUndisturbed calls stopBegun latest
+halts = record { begun = refl; ended = refl; short = refl }
+
+pub witness : Witness
+witness = record { whole = whole; paces = paces; halts = halts }

@@ -8,6 +8,7 @@ use mathlib.Core.List.{List, [], _∷_, _++_}
 use mathlib.Core.Path.{_≡_}
 use lib.Dec.{eqb}
 use lib.IntN.{ℤ, pos, _+ℤ_}
+use lib.ListN.{take}
 use Rattle.machine.specs.Steps.{byteStep}
 use Rattle.machine.specs.Calls.{Call, byte, tick, state}
 use Rattle.machine.specs.Roles.{begins, isTick, stopsIn}
@@ -16,7 +17,7 @@ use Rattle.machine.specs.Identified.{received}
 use Rattle.host.specs.Writer.{lineOf}
 use Rattle.host.specs.declared.Request.{Request}
 use Rattle.station.specs.Forms.{Form, other, speed, move, stop, formOf}
-use Rattle.station.specs.Station.{numberOf, valuesIn}
+use Rattle.station.specs.Station.{convertOf}
 
 -- ---- The distances named
 
@@ -39,7 +40,11 @@ named (c ∷ cs) k = namedBy (formOf c) k +ℤ named cs k
 
 unfoldable pub areConverted : List (List ℕ) → Bool
 areConverted [] = true
-areConverted (c ∷ cs) = eqb (numberOf c) 0 && areConverted cs
+areConverted (c ∷ cs) = eqb (convertOf c .number) 0 && areConverted cs
+
+-- What the converter answers: the values of its first places, as many as it counts.
+abbrev pub answered : List ℕ → List Request
+answered c = take (convertOf c .count) (convertOf c .requests)
 
 unfoldable pub written : List Request → List ℕ
 written [] = []
@@ -47,7 +52,7 @@ written (r ∷ rs) = lineOf r ++ written rs
 
 unfoldable pub linesOf : List (List ℕ) → List ℕ
 linesOf [] = []
-linesOf (c ∷ cs) = written (valuesIn c) ++ linesOf cs
+linesOf (c ∷ cs) = written (answered c) ++ linesOf cs
 
 -- ---- Calls in order of time
 

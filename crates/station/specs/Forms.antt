@@ -1,7 +1,7 @@
 -- What a command of the MD5230D says (source document 001, chapters 2, 3.2.3, 3.2.10, 3.3.1, 3.4.1), for the four of
 -- them that we convert. Its characters are followed by [NULL], the byte 00; △ is a space (32).
 use Prim.Native.Nat.{ℕ, _+_, _-_, _*_}
-use mathlib.Core.Bool.{Bool, true, false, cond, not, _&&_, _||_}
+use mathlib.Core.Bool.{Bool, true, cond, not, _&&_, _||_}
 use mathlib.Core.List.{List, [], _∷_}
 use lib.Dec.{eqb}
 use lib.IntN.{ℤ, pos}

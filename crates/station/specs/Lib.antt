@@ -4,6 +4,8 @@ pub mod Station
 pub mod Spelled
 pub mod Examples
 pub mod Writable
+pub mod Places
 pub mod Executed
 pub mod Witness
+pub mod Taken
 pub mod Held

@@ -5,8 +5,10 @@ ghost use Rattle.station.specs.Station.{convertOf};
 ghost use Rattle.station.specs.Spelled.{Spelled};
 ghost use Rattle.station.specs.Examples.{Examples};
 ghost use Rattle.station.specs.Writable.{Writable};
+ghost use Rattle.station.specs.Places.{Places};
 ghost use Rattle.station.specs.Executed.{Executes};
 ghost use Rattle.station.specs.Witness.{Witness};
+ghost use Rattle.station.specs.Taken.{Taken};
 use host::Request;
 
 mod forms;
@@ -30,15 +32,18 @@ pub struct Converted {
 }
 
 // The command values of a command, or the first of 27, 28 and 29 that applies. Promises: a command says what the format
-// lines of source document 001 spell, with examples; the writer has a line for each value; and their lines, executed,
-// move exactly the distances named, with a run that does.
+// lines of source document 001 spell, with examples; the writer has a line for each value; what each place holds; and
+// that the lines, executed, move exactly the distances named, with runs that do, and that a fresh controller takes the
+// lines of each command.
 pub fn convert(command: &[u8]) -> Converted
     ensures { λ r. ⌜ r ≡ convertOf (now (command .entry)) ⌝ }
     ensures { λ _. ⌜ Spelled ⌝ }
     ensures { λ _. ⌜ Examples ⌝ }
     ensures { λ _. ⌜ Writable ⌝ }
+    ensures { λ _. ⌜ Places ⌝ }
     ensures { λ _. ⌜ Executes ⌝ }
     ensures { λ _. ⌜ Witness ⌝ }
+    ensures { λ _. ⌜ Taken ⌝ }
 {
     let name = names::name_of(command);
     if !names::is_listed(name) {

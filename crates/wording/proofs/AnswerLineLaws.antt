@@ -3,23 +3,21 @@
 use Prim.Native.Nat.{ℕ, _<_}
 use native.Mathlib.Omega.{arith}
 use mathlib.Core.Bool.{Bool, true, false, cond}
-use mathlib.Core.List.{List, _++_}
-use mathlib.Core.Path.{_≡_, refl, ap, _∙_}
+use mathlib.Core.List.{List}
+use mathlib.Core.Path.{_≡_, refl}
 use borrow.Author.Tests.{lt-ltb, le-ltb, eqb-true}
 use lib.Dec.{eqb}
 use lib.ListN.{length}
 use Rattle.laws.proofs.Pick.{by-le}
-use Rattle.machine.specs.Calls.{chars}
 use Rattle.station.specs.Station.{numberOf, valuesIn}
 use Rattle.station.proofs.WritableLaws.{writable}
 use Rattle.text.specs.Parts.{parts}
 use Rattle.sentences.specs.Sentences.{turnedText}
-use Rattle.phrases.specs.Phrases.{wordsText}
-use Rattle.readout.specs.Readout.{isBlock, blockText}
+use Rattle.readout.specs.Readout.{isBlock}
 use Rattle.wording.specs.Promises.{linesTo, AnswerLines}
 use Rattle.wording.specs.Stations.{isStation, commandIn, linesText, stationText}
 use Rattle.wording.specs.Wording.{areSums, answerText}
-use Rattle.wording.proofs.OneLineLaws.{isLine, Clean, either}
+use Rattle.wording.proofs.OneLineLaws.{isLine, Clean}
 use Rattle.wording.proofs.ReplyLineLaws.{block}
 use Rattle.wording.proofs.StationLineLaws.{clean-marks, marks-clean, lines-parts}
 use Rattle.wording.proofs.WordLineLaws.{turned, said, overlong}

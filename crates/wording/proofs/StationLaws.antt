@@ -5,10 +5,8 @@ use mathlib.Core.Bool.{Bool, true, false, cond, false≢true}
 use mathlib.Core.List.{List}
 use mathlib.Core.Path.{_≡_, refl, sym, ap, _∙_}
 use borrow.Author.Tests.{ne-eqb}
-use lib.Dec.{eqb}
 use lib.ListN.{length, drop}
 use Rattle.line.specs.declared.command.Command.{Command}
-use Rattle.machine.specs.Calls.{chars}
 use Rattle.receiver.specs.Receiver.{before, beforeEnd}
 use Rattle.reader.specs.Reader.{Figures}
 use Rattle.reader.specs.Blocks.{Says}

@@ -1,7 +1,7 @@
 -- What the desk answers to a command of an MD5230D station (docs/PROTOCOL.md, "Lines of the other bench make"; paper
 -- 02, 8/14): the lines of the command values that the converter gives, or the number that turns the command away.
 use Prim.Native.Nat.{ℕ}
-use mathlib.Core.Bool.{Bool, true, false, cond}
+use mathlib.Core.Bool.{Bool, false, cond}
 use mathlib.Core.List.{List, [], _∷_, _++_}
 use lib.Dec.{eqb}
 use lib.ListN.{length, getD, take}

@@ -13,21 +13,25 @@ use Rattle.station.specs.Station.{convertOf}
 use Rattle.station.specs.Spelled.{Spelled}
 use Rattle.station.specs.Examples.{Examples}
 use Rattle.station.specs.Writable.{Writable}
+use Rattle.station.specs.Places.{Places}
 use Rattle.station.specs.Executed.{Executes}
 use Rattle.station.specs.Witness.{Witness}
+use Rattle.station.specs.Taken.{Taken}
 use Rattle.station.specs.Held.{heldForm, answer, heldAnswer}
 use Rattle.station.proofs.ValueLaws.{converted}
 use Rattle.station.proofs.SpelledLaws.{spelled}
 use Rattle.station.proofs.ExampleLaws.{examples}
 use Rattle.station.proofs.WritableLaws.{writable}
+use Rattle.station.proofs.PlaceLaws.{in-places}
 use Rattle.station.proofs.ExecutedLaws.{executes}
 use Rattle.station.proofs.WitnessLaws.{witness}
+use Rattle.station.proofs.TakenLaws.{taken}
 use Rattle.station.proofs.convert.Statement.{statement}
 use Rattle.station.proofs.convert.Tie as tie
 
 -- The answer, and what is promised beside it.
-promised : {A : Type 0} → A → A × (Spelled × (Examples × (Writable × (Executes × Witness))))
-promised e = (e, (spelled, (examples, (writable, (executes, witness)))))
+promised : {A : Type 0} → A → A × (Spelled × (Examples × (Writable × (Places × (Executes × (Witness × Taken))))))
+promised e = (e, (spelled, (examples, (writable, (in-places, (executes, (witness, taken)))))))
 
 -- Whether the name is listed, and one of the four.
 listed : (f : tie.After-is-listed)
