@@ -9,8 +9,8 @@ pub use called::Called;
 pub use previewed::Previewed;
 pub use typed::Typed;
 
-use crate::coverage::Coverage;
-use crate::observed::{Directed, Observed};
+use crate::coverage::{Coverage, Stations};
+use crate::observed::{Directed, Observed, Received};
 use crate::random::Random;
 use crate::trial::Asked;
 use reference::{Machine, Trial};
@@ -60,6 +60,7 @@ impl Stand {
 pub trait Bench {
     /// What it stands on.
     fn stand(&self) -> &Stand;
+    fn stand_mut(&mut self) -> &mut Stand;
 
     /// Sends a line with its end; the number that it got.
     fn send(&mut self, random: &mut Random, line: &[u8]) -> u8;
@@ -72,6 +73,21 @@ pub trait Bench {
 
     fn machine(&self) -> &Machine {
         self.stand().observed.machine()
+    }
+
+    /// The last whole line.
+    fn last_received(&self) -> &Received {
+        self.stand().observed.last_received()
+    }
+
+    /// Starts and carry-ons that took effect.
+    fn moves_begun(&self) -> u64 {
+        self.stand().observed.moves_begun()
+    }
+
+    /// The counters of a station's commands.
+    fn stations(&mut self) -> &mut Stations {
+        self.stand_mut().observed.stations()
     }
 
     /// Whether a stopped move is left to be carried on.

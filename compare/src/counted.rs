@@ -64,6 +64,16 @@ impl<K: Clone + Display + Ord> Named<K> {
         self.0.values().sum()
     }
 
+    /// How often a name came.
+    pub fn of(&self, name: &K) -> u64 {
+        self.0.get(name).copied().unwrap_or(0)
+    }
+
+    /// How many names came.
+    pub fn names(&self) -> usize {
+        self.0.len()
+    }
+
     pub fn listed(&self) -> String {
         listed(self.0.iter().map(|(name, &count)| (name, count)))
     }

@@ -5,6 +5,7 @@ mod carried;
 mod identified;
 mod marks;
 mod moves;
+mod stations;
 mod trials;
 
 pub use blocks::Blocks;
@@ -12,6 +13,7 @@ pub use carried::{Carried, Found, Nothing, Since, SINCE};
 pub use identified::{Identified, OtherCase};
 pub use marks::Marks;
 pub use moves::{Cause, Moves};
+pub use stations::{End, Positions, Stations};
 pub use trials::{Met, Trials};
 
 use crate::counted::{add_each, grouped, listed, Counted};
@@ -33,6 +35,7 @@ pub struct Coverage {
     pub readings: u64,
     pub moves: Moves,
     pub carried: Carried,
+    pub stations: Stations,
     pub blocks: Blocks,
     pub identified: Identified,
     pub trials: Trials,
@@ -65,6 +68,7 @@ impl Counted for Coverage {
         self.add_traffic(more);
         self.moves.add(&more.moves);
         self.carried.add(&more.carried);
+        self.stations.add(&more.stations);
         self.blocks.add(&more.blocks);
         self.identified.add(&more.identified);
         self.trials.add(&more.trials);
@@ -83,7 +87,7 @@ impl fmt::Display for Coverage {
         writeln!(f, "  lines {}, {bytes}", g(self.lines))?;
         let [switches, lent, to_ticks] = [&self.switches, &self.lent, &self.lent_to_ticks].map(Marks::count);
         writeln!(f, "  switches {switches} of 256, lengths of buffers lent to bytes {lent}, to ticks {to_ticks}")?;
-        write!(f, "{}{}{}{}", self.blocks, self.identified, self.moves, self.carried)?;
+        write!(f, "{}{}{}{}{}", self.blocks, self.identified, self.moves, self.carried, self.stations)?;
         let numbers = (1..=LAST_IN_ROW).chain([LAST_NUMBER]).map(|number| (format!("{number}:"), self.numbers[number]));
         writeln!(f, "  numbers: {}", listed(numbers))?;
         write!(f, "{}", self.trials)

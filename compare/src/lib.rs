@@ -2,8 +2,9 @@
 //!
 //! `session` runs text through the two bench programs, `preview` text with D lines through the two programs preview,
 //! `list` plays calls and trials to the two machines. An `operator` works at a `bench` to make them: it sets distances,
-//! starts, slows, stops and reads as a cellar master would. `hosted` runs lines of the page of stored vectors through
-//! the two host ends, `worded` words, reply blocks and sums through the two desks. `speed` times both.
+//! starts, slows, stops and reads as a cellar master would, at times by commands of the other bench make (`station`).
+//! `hosted` runs lines of the page of stored vectors through the two host ends, `worded` words, reply blocks, sums and
+//! such commands through the two desks. `speed` times both.
 
 pub mod answers;
 pub mod batch;
@@ -31,6 +32,7 @@ pub mod screens;
 pub mod session;
 pub mod shrink;
 pub mod speed;
+pub mod station;
 pub mod step;
 #[path = "../../include/temixohuel.rs"]
 pub mod temixohuel;

@@ -70,7 +70,8 @@ fn spelled(switch: u8, steps: &[Step]) -> String {
 pub fn compare(folder: &Path, list: List) -> Result<Coverage, String> {
     let List { seed, index, switch, .. } = list;
     let (steps, seen) = steps_of(list);
-    let Some((until, words)) = first_difference(switch, &steps) else { return Ok(seen) };
+    let wrong = || seen.stations.wrong().map(|words| (steps.clone(), format!("both answer the same: {words}\n")));
+    let Some((until, words)) = first_difference(switch, &steps).or_else(wrong) else { return Ok(seen) };
     let file = folder.join(format!("list-{seed}-{index}.txt"));
     fs::write(&file, spelled(switch, &until)).expect("the list is written");
     let last = until.last().map_or(String::new(), |step| format!("last call: {step}\n"));

@@ -5,9 +5,11 @@ mod carrying;
 mod followed;
 mod moved;
 mod paired;
+mod received;
 mod tried;
 
 pub use carrying::{Carrying, Directed};
+pub use received::Received;
 
 use crate::call::LONGEST_LENT;
 use crate::coverage::Coverage;
@@ -23,8 +25,9 @@ pub struct Observed {
     status: u32,
     /// A stop of the running move has begun.
     stop_begun: bool,
-    /// The characters of the line under way, and what the lines before it have set.
+    /// The characters of the line under way, the one before it with its reply, and what those lines have set.
     line: Vec<u8>,
+    last: Received,
     followed: Followed,
     carrying: Carrying,
     paired: Paired,
@@ -37,8 +40,8 @@ impl Observed {
         seen.number(number);
         seen.switches.mark(switch);
         let (status, followed, carrying) = (machine.status(), Followed::power_on(), Carrying::power_on());
-        let (line, paired) = (Vec::new(), Paired::default());
-        Observed { machine, seen, status, stop_begun: false, line, followed, carrying, paired }
+        let (line, last, paired) = (Vec::new(), Received::default(), Paired::default());
+        Observed { machine, seen, status, stop_begun: false, line, last, followed, carrying, paired }
     }
 
     /// As the bench programs begin: the host's first line was accepted, and is not counted (paper 02, 2/14).
@@ -79,6 +82,7 @@ impl Observed {
             return answer;
         }
         if byte == reference::line::LINE_END {
+            self.last = Received { line: self.line.clone(), reply: front(lent, answer.len).to_vec() };
             self.end_line(answer.number);
         } else {
             self.line.push(byte);

@@ -15,6 +15,7 @@ mod in_dwell;
 mod settings;
 mod settle;
 mod starts;
+mod station;
 mod stutter;
 mod under_way;
 

@@ -51,23 +51,29 @@ impl Pair<'_> {
         file.display().to_string()
     }
 
+    /// The seed and the file of the whole text.
+    fn place(&self, item: Item, text: &[u8]) -> String {
+        let (what, Item { seed, index }) = (self.what, item);
+        let whole = self.kept(format!("{what}-{seed}-{index}.in"), text);
+        format!("DIFFERENCE: seed {seed}, {what} {index}, in {whole}")
+    }
+
     /// A difference in words: the seed, the files of the text whole and shrunk, and the first line that differs.
     fn report(&self, item: Item, text: &[u8]) -> String {
         let (what, Item { seed, index }) = (self.what, item);
-        let whole = self.kept(format!("{what}-{seed}-{index}.in"), text);
         let small = self.shrunk(text);
         let file = self.kept(format!("{what}-{seed}-{index}-small.in"), &small);
         let line = first_difference(&(self.proved)(&small), &(self.reference)(&small));
-        let place = format!("DIFFERENCE: seed {seed}, {what} {index}, in {whole}");
+        let place = self.place(item, text);
         format!("{place}\nshrunk, in {file}:\n{}\n{line}", small.escape_ascii()).replace("\\n", "\n")
     }
 
-    /// Whether both print the same on a text, or the difference in words.
-    pub fn compare(&self, item: Item, text: &[u8]) -> Result<(), String> {
+    /// Whether both print the same on a text, and nothing is wrong with what it met; else that in words.
+    pub fn compare(&self, item: Item, text: &[u8], wrong: Option<&str>) -> Result<(), String> {
         if self.differs(text) {
             return Err(self.report(item, text));
         }
-        Ok(())
+        wrong.map_or(Ok(()), |words| Err(format!("{}\nboth print the same: {words}", self.place(item, text))))
     }
 }
 
@@ -80,7 +86,7 @@ mod tests {
         let echo = |text: &[u8]| text.to_vec();
         let capitals = |text: &[u8]| text.iter().map(|&byte| if byte == b'd' { b'D' } else { byte }).collect();
         let pair = Pair { what: "text", folder: Path::new(""), proved: &capitals, reference: &echo };
-        assert_eq!(pair.compare(Item { seed: 0, index: 0 }, b"a\nb\n"), Ok(()));
+        assert_eq!(pair.compare(Item { seed: 0, index: 0 }, b"a\nb\n", None), Ok(()));
         let small = pair.shrunk(b"a\nb\nc d\ne");
         assert_eq!(small, b"c d\n");
         assert_eq!(first_difference(&capitals(&small), &small), "printed line 1: proved c D, reference c d");

@@ -32,5 +32,5 @@ pub fn compare(places: &Places, preview: Item, name: &str) -> Result<Screens, St
     let proved = |text: &[u8]| program::output(&places.preview, &[], &file, text);
     let reference = |text: &[u8]| program::output(&places.preview_reference, &[], &file, text);
     let pair = Pair { what: "preview", folder: &places.folder, proved: &proved, reference: &reference };
-    pair.compare(preview, &text).map(|()| seen)
+    pair.compare(preview, &text, seen.seen.stations.wrong()).map(|()| seen)
 }

@@ -31,5 +31,5 @@ pub fn compare(places: &Places, session: Item, name: &str) -> Result<Coverage, S
     let proved = |text: &[u8]| program::output(&places.bench, &[], &file, text);
     let reference = |text: &[u8]| program::reference_output(reference::bench::run, text);
     let pair = Pair { what: "session", folder: &places.folder, proved: &proved, reference: &reference };
-    pair.compare(session, &text).map(|()| seen)
+    pair.compare(session, &text, seen.stations.wrong()).map(|()| seen)
 }

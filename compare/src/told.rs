@@ -5,6 +5,7 @@ mod kind;
 use crate::batch::pairs;
 use crate::counted::{grouped, Counted, Named};
 use crate::identification::AtHost;
+use crate::station::Commands;
 use crate::words::{in_other_case, with_identification};
 use kind::{command_word, kind_of, Kind};
 use reference::desk::{answer, OVER_LONG};
@@ -28,6 +29,7 @@ pub struct Told {
     block_numbers: Named<u8>,
     switches: Named<char>,
     pub identified: AtHost,
+    pub converted: Commands,
     others: Named<String>,
     questions: Named<String>,
 }
@@ -44,10 +46,10 @@ fn is_none_for_identification(line: &[u8]) -> bool {
 }
 
 impl Told {
-    /// The counts of lines and of their answers.
+    /// The counts of lines and of their answers, each ended by a line feed.
     pub fn of(lines: &[Vec<u8>], answers: &[String]) -> Told {
         let mut seen = Told::default();
-        lines.iter().zip(answers).for_each(|(line, answer)| seen.count(line, answer));
+        lines.iter().zip(answers).for_each(|(line, answer)| seen.count(line, answer.trim_end_matches('\n')));
         seen.identified.other_case(pairs(lines, in_other_case));
         seen
     }
@@ -83,6 +85,7 @@ impl Told {
         match number {
             19 if is_none_for_identification(line) => self.identified.no_line(),
             20 => self.identified.given_without_end(line),
+            27..=29 => self.converted.turned_away(line, number),
             _ => {}
         }
         if line.starts_with(b"trial ") {
@@ -100,6 +103,7 @@ impl Told {
         self.count_line(line);
         match kind_of(line, answer) {
             Kind::Line => self.count_command(line, answer),
+            Kind::Converted(lines) => self.converted.converted(line, lines),
             Kind::Number(number) => self.count_number(line, number),
             Kind::Block(word, number) => self.count_block(line, word, number, answer),
             Kind::Other(word) => self.others.count(word.to_string()),
@@ -123,6 +127,7 @@ impl Counted for Told {
         self.block_numbers.add(&more.block_numbers);
         self.switches.add(&more.switches);
         self.identified.add(&more.identified);
+        self.converted.add(&more.converted);
         self.others.add(&more.others);
         self.questions.add(&more.questions);
     }
@@ -141,7 +146,7 @@ impl fmt::Display for Told {
         writeln!(f, "  reply blocks {}: {}", g(self.blocks.sum()), self.blocks.listed())?;
         writeln!(f, "  numbers in reply blocks: {}", self.block_numbers.listed_with_colons())?;
         writeln!(f, "  switches in reply blocks, but 0: {}", self.switches.listed_with_colons())?;
-        write!(f, "{}", self.identified)?;
+        write!(f, "{}{}", self.identified, self.converted)?;
         writeln!(f, "  program words and sums: {}", self.others.listed())?;
         writeln!(f, "  question marks {}, by the nearest form: {}", g(self.questions.sum()), self.questions.listed())
     }

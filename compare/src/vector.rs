@@ -5,6 +5,7 @@ mod cases;
 mod command;
 mod figure;
 mod journal;
+mod station;
 
 pub use cases::in_other_case;
 
@@ -52,9 +53,12 @@ fn damaged(random: &mut Random, line: String) -> Vec<u8> {
     line
 }
 
-/// One line without its line feed. Each prints one line.
-pub fn line(random: &mut Random) -> Vec<u8> {
-    let line = match random.below(26) {
+/// In so many of 100 cases a line asks the converter.
+const CONVERTED: u32 = 9;
+
+/// A line that asks anything but the converter.
+fn other_line(random: &mut Random) -> String {
+    match random.below(26) {
         0..=6 => command::line(random),
         7..=12 => block::line(random),
         13..=14 => distances(random),
@@ -63,7 +67,12 @@ pub fn line(random: &mut Random) -> Vec<u8> {
         19 => figure::pair(random),
         20..=22 => journal::written(random),
         _ => journal::read(random),
-    };
+    }
+}
+
+/// One line without its line feed. Each prints one line.
+pub fn line(random: &mut Random) -> Vec<u8> {
+    let line = if random.chance(CONVERTED) { station::line(random) } else { other_line(random) };
     if random.chance(2) {
         damaged(random, line)
     } else {

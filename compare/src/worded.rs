@@ -1,11 +1,12 @@
-//! The program desk: the same words, reply blocks and sums through the proved program and through the reference's.
+//! The program desk: the same words, reply blocks, sums and commands of the other bench make through the proved program
+//! and through the reference's.
 
-use crate::batch::{self, Batch};
+use crate::batch::{self, Answered, Batch};
 use crate::program::{self, Places};
 use crate::random::{part, Random};
 use crate::told::Told;
 use crate::words;
-use std::io::BufReader;
+use std::io::{self, BufReader};
 
 fn lines_of(batch: Batch) -> Vec<Vec<u8>> {
     let mut random = Random::of_item(batch.seed, part::WORDS, batch.index);
@@ -21,15 +22,20 @@ fn text_of(batch: Batch, lines: &[Vec<u8>]) -> Vec<u8> {
     text
 }
 
+/// The reference's program.
+fn reference_desk(text: &[u8], output: &mut Vec<u8>) -> io::Result<()> {
+    reference::desk::run(BufReader::new(text), output)
+}
+
 /// Runs a batch on both; what it was told, or the difference in words. `name` is a working file of the caller's own.
 pub fn compare(places: &Places, batch: Batch, name: &str) -> Result<Told, String> {
     let lines = lines_of(batch);
-    let text = text_of(batch, &lines);
-    let proved = program::output(&places.desk, &[], &places.folder.join(name), &text);
-    let run = |text, output: &mut Vec<u8>| reference::desk::run(BufReader::new(text), output);
-    let reference = program::reference_output(run, &text);
-    let answers = batch::answers(batch, &lines, &proved, &reference)?;
-    Ok(Told::of(&lines, &answers))
+    let (text, told) = (text_of(batch, &lines), batch::told(&lines, reference::desk::answer));
+    let file = places.folder.join(name);
+    let proved = |text: &[u8]| program::output(&places.desk, &[], &file, text);
+    let reference = |text: &[u8]| program::reference_output(reference_desk, text);
+    Answered { batch, lines: &lines, text: &text, told: &told }.compare(&proved, &reference)?;
+    Ok(Told::of(&lines, &told))
 }
 
 #[cfg(test)]
@@ -38,13 +44,13 @@ mod tests {
     use crate::counted::Counted;
 
     #[test]
-    fn identifications_of_every_kind_come() {
+    fn identifications_and_commands_of_every_kind_come() {
         let mut seen = Told::default();
         for index in 0..2 {
             let lines = lines_of(Batch { seed: 1, index, lines: 10_000 });
-            let answers = lines.iter().map(|line| reference::desk::answer(line).trim_end_matches('\n').to_string());
-            seen.add(&Told::of(&lines, &answers.collect::<Vec<_>>()));
+            seen.add(&Told::of(&lines, &batch::told(&lines, reference::desk::answer)));
         }
         assert_eq!(seen.identified.not_met(), "", "{}", seen.identified);
+        assert_eq!(seen.converted.not_met(), "", "{}", seen.converted);
     }
 }

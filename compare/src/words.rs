@@ -1,4 +1,5 @@
-//! Lines for the program desk ("From words" of `docs/PROTOCOL.md`): words, reply blocks and sums, right and wrong.
+//! Lines for the program desk ("From words" of `docs/PROTOCOL.md`): words, reply blocks, sums and commands of the other
+//! bench make, right and wrong.
 
 mod command;
 mod figure;
@@ -8,11 +9,12 @@ mod number;
 mod odd;
 mod program;
 mod reply;
+mod station;
 mod sums;
 mod wish;
 
-pub use long::lengthened;
-pub use number::{decimal, hexadecimal, spelled, spelled_in_16};
+pub use long::{lengthened, with_zeros};
+pub use number::{about, decimal, hexadecimal, spelled, spelled_in_16};
 pub use wish::with_identification;
 
 use crate::random::Random;
@@ -30,7 +32,7 @@ fn any_byte(random: &mut Random) -> u8 {
 /// A character as damage puts it in: one that means something somewhere, one near that which was there, or any.
 fn stray(random: &mut Random, byte: u8) -> u8 {
     let any = any_byte(random);
-    let known = random.pick(b"  0123456789ABCDEFabcdefgGUSsRQPWT.-+,:?@`\r\t\0");
+    let known = random.pick(b"  0123456789ABCDEFabcdefgGUSsRQPWTXYZ.-+,:?@`\r\t\0");
     let near = random.pick(&[byte ^ 0x20, byte ^ 0x80, byte.wrapping_add(1), byte.wrapping_sub(1), byte]);
     match random.pick(&[any, known, known, near]) {
         LINE_FEED => any,
@@ -64,9 +66,9 @@ pub fn in_other_case(line: &[u8]) -> Option<Vec<u8>> {
     wish::in_other_case(line).or_else(|| reply::in_other_case(line))
 }
 
-/// One line without its line feed. Each prints one line.
+/// One line without its line feed. Each prints one line, a station's move six.
 pub fn line(random: &mut Random) -> Vec<u8> {
-    let line = match random.below(100) {
+    let line = match random.below(110) {
         0..=42 => wish::around(random, command::form),
         43..=53 => program::form(random).into_bytes(),
         54 => wish::around(random, program::form),
@@ -74,7 +76,8 @@ pub fn line(random: &mut Random) -> Vec<u8> {
         75..=81 => sums::line(random).into_bytes(),
         82..=91 => wish::around(random, misspelt::form),
         92..=95 => long::line(random),
-        _ => odd::line(random),
+        96..=99 => odd::line(random),
+        _ => station::line(random),
     };
     if random.chance(8) {
         touched(random, line)
@@ -103,7 +106,7 @@ mod tests {
     fn every_answer_comes() {
         let answered = answered();
         let comes = |front: &str| answered.iter().any(|(_, answer)| answer.starts_with(front));
-        let numbers = [3, 4, 5, 6, 7, 8, 9, 10, 11, 12, 13, 14, 15, 16, 17, 19, 20, 21, 25, 26];
+        let numbers = [3, 4, 5, 6, 7, 8, 9, 10, 11, 12, 13, 14, 15, 16, 17, 19, 20, 21, 25, 26, 27, 28, 29];
         assert!(numbers.iter().all(|number| comes(&format!("turned away by {number}: "))));
         let orders =
             ["start", "stop", "clear", "reset", "carry on", "low", "high"].map(|order| format!("accepted: {order}"));

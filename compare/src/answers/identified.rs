@@ -8,9 +8,9 @@ fn byte_of(digits: &[u8]) -> Option<u8> {
     u8::from_str_radix(std::str::from_utf8(digits).ok()?, 16).ok()
 }
 
-/// The bytes of a `B` line that has the form.
-fn bytes_of(line: &[u8]) -> Option<Vec<u8>> {
-    line.strip_prefix(b"B ")?.chunks(2).map(byte_of).collect()
+/// The bytes behind the front of a line that has the form.
+pub fn bytes_of(line: &[u8], front: &[u8]) -> Option<Vec<u8>> {
+    line.strip_prefix(front)?.chunks(2).map(byte_of).collect()
 }
 
 /// Whether a command without a line would have one with a numeral as identification, which it has.
@@ -26,7 +26,7 @@ pub fn count(seen: &mut AtHost, line: &[u8], answer: &str) {
     match (line, number) {
         ([b'W', .., high, low], "00") => byte_of(&[*high, *low]).into_iter().for_each(|byte| seen.written(byte)),
         ([b'W', ..], "19") if is_none_for_identification(line) => seen.no_line(),
-        ([b'B', ..], "00" | "20") => bytes_of(line).into_iter().for_each(|bytes| seen.given(&bytes)),
+        ([b'B', ..], "00" | "20") => bytes_of(line, b"B ").into_iter().for_each(|bytes| seen.given(&bytes)),
         _ => {}
     }
 }

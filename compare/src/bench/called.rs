@@ -152,6 +152,10 @@ impl Bench for Called {
         &self.stand
     }
 
+    fn stand_mut(&mut self) -> &mut Stand {
+        &mut self.stand
+    }
+
     fn send(&mut self, random: &mut Random, line: &[u8]) -> u8 {
         for &byte in line {
             self.receive(random, byte);

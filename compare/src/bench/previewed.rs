@@ -74,6 +74,10 @@ impl Bench for Previewed {
         &self.typed.stand
     }
 
+    fn stand_mut(&mut self) -> &mut Stand {
+        &mut self.typed.stand
+    }
+
     /// A damaged line that begins with D is a D line without the form.
     fn send(&mut self, random: &mut Random, line: &[u8]) -> u8 {
         if self.trying.before_line(&self.typed.stand) {

@@ -80,6 +80,10 @@ impl Bench for Typed {
         &self.stand
     }
 
+    fn stand_mut(&mut self) -> &mut Stand {
+        &mut self.stand
+    }
+
     /// A damaged line that a T or a line feed would make another one has an X in its place.
     fn send(&mut self, _: &mut Random, line: &[u8]) -> u8 {
         let mut line = line.to_vec();

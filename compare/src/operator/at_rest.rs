@@ -59,6 +59,7 @@ impl Operator {
             }
             72..=74 => self.two_cases(bench),
             75..=76 => self.settle_in_two_cases(bench),
+            77..=79 => self.station_move(bench),
             _ => self.start_move(bench),
         }
         self.run_some(bench, 20);

@@ -24,6 +24,7 @@ impl Operator {
             17 => self.settle(bench),
             18 => self.settle_beside_start(bench),
             19 => self.two_cases(bench),
+            20 => self.station_move(bench),
             _ => {}
         }
         self.run_dwell(bench);

@@ -11,7 +11,7 @@ const LONGEST_MOVE: u32 = 540_000;
 
 impl Operator {
     /// The master's distance: of the operator's usual size, or of any.
-    fn master_distance(&mut self) -> u32 {
+    pub(super) fn master_distance(&mut self) -> u32 {
         match self.random.below(40) {
             0 => LONGEST,
             1..=3 => self.random.spread(LONGEST),
@@ -33,7 +33,7 @@ impl Operator {
     }
 
     /// A direction that ends in range, where the operator minds it.
-    fn direction<B: Bench>(&mut self, bench: &B, axis: usize, distance: u32) -> bool {
+    pub(super) fn direction<B: Bench>(&mut self, bench: &B, axis: usize, distance: u32) -> bool {
         let (position, distance) = (bench.machine().positions()[axis], distance as i32);
         if self.random.chance(97) && position + distance > LONGEST as i32 {
             return true;

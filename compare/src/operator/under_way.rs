@@ -27,6 +27,7 @@ impl Operator {
             45..=47 => self.settle_beside(bench),
             48..=49 => self.two_cases(bench),
             50 => self.settle_in_two_cases(bench),
+            51 => self.station_under_way(bench),
             _ => {}
         }
         if self.patience == 0 {

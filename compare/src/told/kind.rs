@@ -1,9 +1,13 @@
 //! The kinds of answers of the program desk.
 
+use crate::station::is_typed;
+
 /// What an answer is, by its first characters.
 pub enum Kind<'a> {
     /// A line of the controller.
     Line,
+    /// So many of them, from a command of the other bench make.
+    Converted(usize),
     /// The desk's own number, which no reply block has.
     Number(u8),
     /// Words of a reply block: what it is, and its number if it has one that turns away.
@@ -65,6 +69,9 @@ pub fn kind_of<'a>(line: &[u8], answer: &'a str) -> Kind<'a> {
     }
     if let Some(form) = answer.strip_prefix("? ") {
         return question(form);
+    }
+    if is_typed(line) {
+        return Kind::Converted(answer.lines().count());
     }
     match answer.as_bytes() {
         b"P0B0" => Kind::Other("opening"),

@@ -21,7 +21,7 @@ fn stretched(mut line: Vec<u8>, at: usize, character: u8, length: usize) -> Vec<
 }
 
 /// Zeros before the first digit, which leave a form; where there is no digit, spaces or letters at the end.
-fn with_zeros(random: &mut Random, line: Vec<u8>, length: usize) -> Vec<u8> {
+pub fn with_zeros(random: &mut Random, line: Vec<u8>, length: usize) -> Vec<u8> {
     match line.iter().position(u8::is_ascii_digit) {
         Some(at) => stretched(line, at, b'0', length),
         None => {
