@@ -3,9 +3,9 @@
 
 Examples: `X` prints `Y`, or `X` is `Y`, in the text, and each row of a table, its first cell X and its last Y in
 backticks, each line of an answer by itself; lines that a cell between says to print the same; and each line that a
-number's row has in its last cell, Y being that number with its sentence. X must be a line of crates/desk/stdin and Y an
-answer to it in crates/desk/stdout. An example that fits a line of crates/wording/specs/*Page.antt must stand there too,
-where it is proved. The rows of the table that is typed at a fresh desk are the first lines of crates/desk/stdin.
+number's row has in its last cell, Y being that number with its sentence. X must be a line of crates/desk/stdin and Y
+its answer in crates/desk/stdout. An example that fits a line of crates/wording/specs/*Page.antt must stand there too,
+where it is proved.
 Fixed words: the table of sentences, the words and forms in the tables of words, and what the text says of a status must
 be those of crates/sentences/specs/Sentences.antt, which the desk is proved to say.
 Recipe: its table in README.md has the lines of docs/recipe.txt and docs/recipe.out side by side.
@@ -22,9 +22,7 @@ import stored
 ROOT = Path(__file__).resolve().parent.parent
 SECTIONS = "## From words", "## Lines of the other bench make"
 DESK, SPEC, PAGES = "crates/desk", "crates/sentences/specs/Sentences.antt", "crates/wording/specs"
-ROW = re.compile(r'answerText 0 \(chars "([^"]*)"\)\s+≡ (?:chars ("[^"]*")|lines \(([^()]*)\))')
-KEPT = re.compile(r'Row \d "([^"]*)"\s+\(([^()]*)\)')  # a line, and what is printed, behind a previous master
-FRESH = "Typed at a fresh desk"  # the head of the table whose rows are the first stored lines, in order
+ROW = re.compile(r'answerText \(chars "([^"]*)"\)\s+≡ (?:chars ("[^"]*")|lines \(([^()]*)\))')
 LONGEST = 110  # of a text that is printed: a longer one has no room in a line of the specification
 EXAMPLE = re.compile(r"`([^`]+)` (?:prints|is) `([^`]+)`")
 QUOTED = re.compile(r"`([^`]+)`")
@@ -93,39 +91,25 @@ def refusals(parts, sentences):
 
 def unanswered(shown):
     """Where an example is not what the stored lines and answers have."""
-    answers = {}  # what a line prints may go by the previous master
     try:
-        for line, answer in stored.desk():
-            answers.setdefault(line.removesuffix(b"\n"), []).append(answer.removesuffix(b"\n"))
+        answers = {line.removesuffix(b"\n"): answer.removesuffix(b"\n") for line, answer in stored.desk()}
     except ValueError as wrong:
         yield str(wrong)
         return
     for number, pair in shown:
-        told = answers.get(pair[0].encode()) if pair else None
+        answer = answers.get(pair[0].encode()) if pair else None
         if pair is None:
             yield f"line {number}: a row without a line and what is printed"
-        elif told is None:
+        elif answer is None:
             yield f"line {number}: `{pair[0]}` is no line of {DESK}/stdin"
-        elif pair[1].encode() not in told:
-            yield f"line {number}: `{pair[0]}` prints `{told[0].decode(errors='replace')}`, not `{pair[1]}`"
-
-
-def unordered(parts):
-    """Where the table that is typed at a fresh desk is not the first stored lines with their answers."""
-    rows = [pair for head, rows in tables(parts) if head.startswith(FRESH) for pair in rows]
-    if not rows:
-        yield f"no table has the head `{FRESH}`"
-    for (number, cells), (line, answer) in zip(rows, stored.desk()):
-        typed, printed = QUOTED.findall(cells[0]), QUOTED.findall(cells[-1])
-        if (line.decode(), answer.decode()) != ("".join(f"{x}\n" for x in typed), "".join(f"{x}\n" for x in printed)):
-            yield f"line {number}: not the next of the first lines of {DESK}/stdin with its answer"
+        elif answer != pair[1].encode():
+            yield f"line {number}: `{pair[0]}` prints `{answer.decode(errors='replace')}`, not `{pair[1]}`"
 
 
 def unproved(shown):
     """Where an example is none of those that are proved."""
     text = "".join(page.read_text(encoding="utf-8") for page in (ROOT / PAGES).glob("*Page.antt"))
-    rows = [(typed, one or lines) for typed, one, lines in ROW.findall(text)] + KEPT.findall(text)
-    proved = {(typed, "\n".join(re.findall('"([^"]*)"', printed))) for typed, printed in rows}
+    proved = {(typed, "\n".join(re.findall('"([^"]*)"', one or lines))) for typed, one, lines in ROW.findall(text)}
     for number, pair in shown:
         if pair and len(pair[1]) <= LONGEST and pair not in proved:
             yield f"line {number}: `{pair[0]}` with `{pair[1]}` does not stand in {PAGES}"
@@ -199,7 +183,7 @@ def main():
     sentences = {cells[0]: cells[1] for cells in rows_of(parts, "Number")}
     shown = [*examples(parts), *examples(station), *refusals(station, sentences)]
     told = fixed(parts)
-    wrong = [*unanswered(shown), *unordered(parts), *unproved(shown), *differing(told), *untold(), *unshown()]
+    wrong = [*unanswered(shown), *unproved(shown), *differing(told), *untold(), *unshown()]
     counts = ", ".join(f"{len(rows)} {name}" for name, rows in told.items())
     total = f"words: {len(shown)} examples, {counts}, {len(wrong)} wrong"
     print("\n".join([f"words: {w}" for w in wrong] + [total]))

@@ -3,10 +3,9 @@
 mod converted;
 mod identified;
 
-use crate::batch::{pairs, same_but_wrong};
+use crate::batch::pairs;
 use crate::counted::{Counted, Named};
 use crate::identification::AtHost;
-use crate::picked;
 use crate::station::Commands;
 use crate::vector::in_other_case;
 use std::fmt;
@@ -21,7 +20,6 @@ pub struct Answers {
     carry_ons: Named<&'static str>,
     pub identified: AtHost,
     pub converted: Commands,
-    pub picked: picked::AtHost,
 }
 
 /// A number of the papers at the front of the answers to W, B, C, F, A and J, `--` for the end of a journal, or the
@@ -43,17 +41,12 @@ fn carry_on(line: &[u8], answer: &str) -> Option<&'static str> {
 }
 
 impl Answers {
-    /// The counts of lines and of their answers, each ended by a line feed; or the first with another master than is
-    /// due, in words.
-    pub fn of(lines: &[Vec<u8>], answers: &[String]) -> Result<Answers, String> {
+    /// The counts of lines and of their answers, each ended by a line feed.
+    pub fn of(lines: &[Vec<u8>], answers: &[String]) -> Answers {
         let mut seen = Answers::default();
-        for (at, (line, answer)) in lines.iter().zip(answers).enumerate() {
-            let answer = answer.trim_end_matches('\n');
-            seen.picked.judge(line, answer).map_err(|wrong| same_but_wrong(at, line, answer, &wrong))?;
-            seen.count(line, answer);
-        }
+        lines.iter().zip(answers).for_each(|(line, answer)| seen.count(line, answer.trim_end_matches('\n')));
         seen.identified.other_case(pairs(lines, in_other_case));
-        Ok(seen)
+        seen
     }
 
     fn count(&mut self, line: &[u8], answer: &str) {
@@ -76,7 +69,6 @@ impl Counted for Answers {
         self.carry_ons.add(&more.carry_ons);
         self.identified.add(&more.identified);
         self.converted.add(&more.converted);
-        self.picked.add(&more.picked);
     }
 }
 
@@ -86,6 +78,6 @@ impl fmt::Display for Answers {
         let numbers = self.numbers.listed();
         writeln!(f, "  numbers of W, B, C, F, A and J, ends of journals, and question marks: {numbers}")?;
         writeln!(f, "  of carry-ons: {}", self.carry_ons.listed())?;
-        write!(f, "{}{}{}", self.identified, self.converted, self.picked)
+        write!(f, "{}{}", self.identified, self.converted)
     }
 }

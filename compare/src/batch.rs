@@ -2,7 +2,7 @@
 
 mod answered;
 
-pub use answered::{same_but_wrong, told, Answered};
+pub use answered::{told, Answered};
 
 use crate::random::Random;
 
@@ -12,13 +12,6 @@ pub struct Batch {
     pub seed: u64,
     pub index: u64,
     pub lines: usize,
-}
-
-impl Batch {
-    /// A difference in words that begin with its line.
-    pub fn differs(&self, words: &str) -> String {
-        format!("DIFFERENCE: seed {}, batch {}, {words}", self.seed, self.index)
-    }
 }
 
 /// In so many of 100 cases a line with a letter as identification is followed by the same in the other case.

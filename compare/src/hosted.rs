@@ -14,13 +14,12 @@ fn lines_of(batch: Batch) -> Vec<Vec<u8>> {
 /// Runs a batch on both; its answers, or the difference in words. `name` is a working file of the caller's own.
 pub fn compare(places: &Places, batch: Batch, name: &str) -> Result<Answers, String> {
     let lines = lines_of(batch);
-    let tells = |lines: &[Vec<u8>]| batch::told(lines, reference::vectors::answer);
-    let (text, told) = (batch::text_of(&lines), tells(&lines));
+    let (text, told) = (batch::text_of(&lines), batch::told(&lines, reference::vectors::answer));
     let file = places.folder.join(name);
     let proved = |text: &[u8]| program::output(&places.host, &["vectors", "-"], &file, text);
     let reference = |text: &[u8]| program::reference_output(reference::vectors::run, text);
-    Answered { batch, lines: &lines, text: &text, told: &told, tells: &tells }.compare(&proved, &reference)?;
-    Answers::of(&lines, &told).map_err(|wrong| batch.differs(&wrong))
+    Answered { batch, lines: &lines, text: &text, told: &told }.compare(&proved, &reference)?;
+    Ok(Answers::of(&lines, &told))
 }
 
 #[cfg(test)]
@@ -29,14 +28,13 @@ mod tests {
     use crate::counted::Counted;
 
     #[test]
-    fn identifications_commands_and_masters_of_every_kind_come() {
+    fn identifications_and_commands_of_every_kind_come() {
         let mut seen = Answers::default();
         for index in 0..2 {
             let lines = lines_of(Batch { seed: 1, index, lines: 10_000 });
-            seen.add(&Answers::of(&lines, &batch::told(&lines, reference::vectors::answer)).unwrap());
+            seen.add(&Answers::of(&lines, &batch::told(&lines, reference::vectors::answer)));
         }
         assert_eq!(seen.identified.not_met(), "", "{}", seen.identified);
         assert_eq!(seen.converted.not_met(), "", "{}", seen.converted);
-        assert_eq!(seen.picked.not_met(), "", "{}", seen.picked);
     }
 }

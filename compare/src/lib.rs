@@ -4,8 +4,7 @@
 //! `list` plays calls and trials to the two machines. An `operator` works at a `bench` to make them: it sets distances,
 //! starts, slows, stops and reads as a cellar master would, at times by commands of the other bench make (`station`).
 //! `hosted` runs lines of the page of stored vectors through the two host ends, `worded` words, reply blocks, sums and
-//! such commands through the two desks. `picked` has the master that is due by the paper, and judges each printed one.
-//! `speed` times both.
+//! such commands through the two desks. `speed` times both.
 
 pub mod answers;
 pub mod batch;
@@ -23,7 +22,6 @@ pub mod list;
 pub mod observed;
 pub mod operator;
 pub mod pair;
-pub mod picked;
 pub mod played;
 pub mod preview;
 pub mod program;

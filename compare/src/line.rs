@@ -22,16 +22,6 @@ pub struct Order {
     most: usize,
 }
 
-impl Order {
-    /// The master of a start, at once or after the dwell.
-    pub fn master(&self) -> Option<u8> {
-        match (self.letter, self.digits.as_bytes()) {
-            (b'Q', [b'8', master]) => (*master as char).to_digit(16).map(|digit| digit as u8 % 8),
-            _ => None,
-        }
-    }
-}
-
 fn short(letter: u8, digits: String) -> Order {
     Order { letter, digits, most: SIX }
 }

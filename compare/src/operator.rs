@@ -7,7 +7,6 @@ use crate::line::{self, Order};
 use crate::random::Random;
 use reference::command::{FASTEST, HIGHEST_POLARITY, LONGEST, ON_SETTING_BITS, STEEPEST};
 use reference::machine::INPUT_WORD_END;
-use station::Host;
 
 mod at_rest;
 mod carry_on;
@@ -42,8 +41,6 @@ pub struct Operator {
     usual_run: u32,
     /// The axis that the last distances were set for.
     master: usize,
-    /// What converts a station's commands for it.
-    host: Host,
     /// Whether the present move is left to its end, and after how many steps patience ends.
     leave_whole: bool,
     patience: u32,
@@ -53,7 +50,6 @@ impl Operator {
     /// Operators differ: from small lively moves to moves of any length. The watch is the one that it finds set.
     pub fn new(mut random: Random, watch: u32) -> Operator {
         let (usual_distance, usual_run) = random.pick(&[(12, 300), (300, 1_000), (2_000, 3_000), (LONGEST, 60_000)]);
-        let host = Host::new(&random);
         Operator {
             random,
             low_on: 0,
@@ -63,7 +59,6 @@ impl Operator {
             usual_distance,
             usual_run,
             master: 0,
-            host,
             leave_whole: true,
             patience: 0,
         }
@@ -89,11 +84,7 @@ impl Operator {
     /// Sends an order in one of its forms; true if it is accepted.
     fn order<B: Bench>(&mut self, bench: &mut B, order: Order) -> bool {
         let line = line::spelled(&mut self.random, &order);
-        let accepted = bench.send(&mut self.random, &line) == 0;
-        if let Some(master) = order.master().filter(|_| accepted) {
-            self.host.started(master);
-        }
-        accepted
+        bench.send(&mut self.random, &line) == 0
     }
 
     fn read<B: Bench>(&mut self, bench: &mut B) {

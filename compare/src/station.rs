@@ -9,8 +9,8 @@ mod near;
 mod number;
 
 pub use counted::Commands;
-pub use form::{any_move, axis, comma, command, stop};
-pub use moves::{lengths_named, lines, named};
+pub use form::{axis, comma, command, stop};
+pub use moves::{lines, named};
 pub use names::{any_name, near_name};
 pub use near::near_form;
 

@@ -2,10 +2,9 @@
 
 mod kind;
 
-use crate::batch::{pairs, same_but_wrong};
+use crate::batch::pairs;
 use crate::counted::{grouped, Counted, Named};
 use crate::identification::AtHost;
-use crate::picked::{AtDesk, Kept};
 use crate::station::Commands;
 use crate::words::{in_other_case, with_identification};
 use kind::{command_word, kind_of, Kind};
@@ -31,7 +30,6 @@ pub struct Told {
     switches: Named<char>,
     pub identified: AtHost,
     pub converted: Commands,
-    pub picked: AtDesk,
     others: Named<String>,
     questions: Named<String>,
 }
@@ -48,17 +46,12 @@ fn is_none_for_identification(line: &[u8]) -> bool {
 }
 
 impl Told {
-    /// The counts of the lines of a desk's input and of their answers, each ended by a line feed; or the first with
-    /// another master than is due, in words.
-    pub fn of(lines: &[Vec<u8>], answers: &[String]) -> Result<Told, String> {
-        let (mut seen, mut kept) = (Told::default(), Kept::fresh());
-        for (at, (line, answer)) in lines.iter().zip(answers).enumerate() {
-            let answer = answer.trim_end_matches('\n');
-            seen.picked.judge(&mut kept, line, answer).map_err(|wrong| same_but_wrong(at, line, answer, &wrong))?;
-            seen.count(line, answer);
-        }
+    /// The counts of lines and of their answers, each ended by a line feed.
+    pub fn of(lines: &[Vec<u8>], answers: &[String]) -> Told {
+        let mut seen = Told::default();
+        lines.iter().zip(answers).for_each(|(line, answer)| seen.count(line, answer.trim_end_matches('\n')));
         seen.identified.other_case(pairs(lines, in_other_case));
-        Ok(seen)
+        seen
     }
 
     /// What a line is before it is answered.
@@ -135,7 +128,6 @@ impl Counted for Told {
         self.switches.add(&more.switches);
         self.identified.add(&more.identified);
         self.converted.add(&more.converted);
-        self.picked.add(&more.picked);
         self.others.add(&more.others);
         self.questions.add(&more.questions);
     }
@@ -154,7 +146,7 @@ impl fmt::Display for Told {
         writeln!(f, "  reply blocks {}: {}", g(self.blocks.sum()), self.blocks.listed())?;
         writeln!(f, "  numbers in reply blocks: {}", self.block_numbers.listed_with_colons())?;
         writeln!(f, "  switches in reply blocks, but 0: {}", self.switches.listed_with_colons())?;
-        write!(f, "{}{}{}", self.identified, self.converted, self.picked)?;
+        write!(f, "{}{}", self.identified, self.converted)?;
         writeln!(f, "  program words and sums: {}", self.others.listed())?;
         writeln!(f, "  question marks {}, by the nearest form: {}", g(self.questions.sum()), self.questions.listed())
     }

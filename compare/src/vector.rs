@@ -9,9 +9,9 @@ mod station;
 
 pub use cases::in_other_case;
 
-use crate::picked::{lengths, previous};
 use crate::random::Random;
 use crate::touch::Touch;
+use reference::command::LONGEST;
 
 /// A value for a field that is taken from 0 or 1 to `last`: the ends, what is next to them, one in the range, any.
 fn near(random: &mut Random, last: u32) -> u32 {
@@ -26,11 +26,17 @@ fn near(random: &mut Random, last: u32) -> u32 {
     }
 }
 
-/// A previous master and five distances, of which some are equal.
+/// Five distances, of which some are equal.
 fn distances(random: &mut Random) -> String {
-    let previous = previous(random);
-    let distances = lengths(random).map(|length| format!(" {length:08X}"));
-    format!("M {previous:02X}{}", distances.concat())
+    let most = random.pick(&[3, LONGEST, u32::MAX - 1]);
+    let (one, other) = (random.below(most), random.below(most));
+    let all: Vec<String> = (0..5)
+        .map(|_| {
+            let any = random.bits() as u32;
+            format!(" {:08X}", random.pick(&[0, one, one, one, one + 1, other, other, any]))
+        })
+        .collect();
+    format!("M{}", all.concat())
 }
 
 /// A character as damage puts it in.
@@ -52,14 +58,14 @@ const CONVERTED: u32 = 9;
 
 /// A line that asks anything but the converter.
 fn other_line(random: &mut Random) -> String {
-    match random.below(28) {
+    match random.below(26) {
         0..=6 => command::line(random),
         7..=12 => block::line(random),
-        13..=16 => distances(random),
-        17..=19 => figure::read_back(random),
-        20 => figure::shown(random),
-        21 => figure::pair(random),
-        22..=24 => journal::written(random),
+        13..=14 => distances(random),
+        15..=17 => figure::read_back(random),
+        18 => figure::shown(random),
+        19 => figure::pair(random),
+        20..=22 => journal::written(random),
         _ => journal::read(random),
     }
 }

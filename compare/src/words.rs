@@ -3,7 +3,6 @@
 
 mod command;
 mod figure;
-mod kept;
 mod long;
 mod misspelt;
 mod number;
@@ -69,7 +68,7 @@ pub fn in_other_case(line: &[u8]) -> Option<Vec<u8>> {
 
 /// One line without its line feed. Each prints one line, a station's move six.
 pub fn line(random: &mut Random) -> Vec<u8> {
-    let line = match random.below(120) {
+    let line = match random.below(110) {
         0..=42 => wish::around(random, command::form),
         43..=53 => program::form(random).into_bytes(),
         54 => wish::around(random, program::form),
@@ -78,8 +77,7 @@ pub fn line(random: &mut Random) -> Vec<u8> {
         82..=91 => wish::around(random, misspelt::form),
         92..=95 => long::line(random),
         96..=99 => odd::line(random),
-        100..=109 => station::line(random),
-        _ => kept::line(random),
+        _ => station::line(random),
     };
     if random.chance(8) {
         touched(random, line)
@@ -95,7 +93,7 @@ mod tests {
 
     fn answered() -> Vec<(Vec<u8>, String)> {
         let mut random = Random::of_item(1, 0, 0);
-        let lines = (0..40_000).map(|_| line(&mut random));
+        let lines = (0..20_000).map(|_| line(&mut random));
         lines.map(|line| (line.clone(), answer(&line))).collect()
     }
 

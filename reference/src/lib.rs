@@ -1,8 +1,7 @@
 //! Reference of the five-pump blending controller, written from paper 01 and, where that is silent, the manual; the
 //! journal from paper 02, 1/14, the watch of power-on from 2/14, the settled inputs of W lines from 3/14, the trial
-//! from 5/14, carrying on from 6/14, small identification letters from 7/14, the lines of the other bench make from
-//! 8/14 with source document 001, and the previous master from 9/14; the programs desk and preview from the page on the
-//! line protocol.
+//! from 5/14, carrying on from 6/14, small identification letters from 7/14, and the lines of the other bench make from
+//! 8/14 with source document 001; the programs desk and preview from the page on the line protocol.
 //!
 //! Each rule is a small function; its comment names the section of paper 01 that holds the rule, the journal, the
 //! request of paper 02, the source document, or "From words", "Lines of the other bench make" or "A dose on screen

@@ -1,9 +1,8 @@
-//! Stored vectors of the converter of MD5230D commands (paper 02, 8/14 and 9/14): the text of the stored input.
+//! Stored vectors of the converter of MD5230D commands (paper 02, 8/14): the text of the stored input.
 
 mod ends;
 mod names;
 mod other_forms;
-mod previous;
 mod ranges;
 mod refused_forms;
 mod taken_forms;
@@ -25,12 +24,7 @@ pub fn station_text() -> String {
     ranges::distances(&mut text);
     ranges::long_numbers(&mut text);
     ranges::most_bytes(&mut text);
-    previous::equal_lengths(&mut text);
-    previous::unequal_lengths(&mut text);
-    previous::kept(&mut text);
-    previous::every_previous(&mut text);
-    previous::passed_on(&mut text);
     other_forms::other_forms(&mut text);
     text.heading("one line of the right form at the end, without its line feed");
-    text.ended_by("C 01 535354205900")
+    text.ended_by("C 535354205900")
 }

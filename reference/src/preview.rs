@@ -80,8 +80,7 @@ fn trial_lines(machine: &Machine, line: &[u8]) -> String {
     }
 }
 
-/// A dose on screen first: each line that the bench program would print, in words. It prints whole lines alone, and the
-/// words of none hang on a previous master.
+/// A dose on screen first: each line that the bench program would print, in words. It prints whole lines alone.
 fn bench_lines(machine: &mut Machine, line: &[u8]) -> io::Result<String> {
     let mut printed = Vec::new();
     obey(machine, line, &mut printed)?;

@@ -1,12 +1,12 @@
 //! Paper 02, 8/14: a command of the other bench make, the MD5230D (source document 001), becomes up to six command
-//! values for the writer. Paper 02, 9/14: it takes the previous master, and tells the one to pass on.
+//! values for the writer.
 
 mod form;
 mod names;
 mod number;
 
 use crate::command::{in_range, Command, CommandValue, DISTANCES};
-use crate::host::{counted_master, pick_master};
+use crate::host::pick_master;
 use form::{Asked, Distance};
 use std::ops::RangeInclusive;
 
@@ -34,14 +34,12 @@ const UNITS_OF_ONE_PPS: u32 = 4;
 /// 8/14: X is axis 0, Y axis 1, the other axes get distance 0.
 const AXES: usize = 5;
 
-/// 8/14: what a command is converted to: a number, or 0 and so many command values in the front places of the six;
-/// 9/14: and the master to pass on with the next command.
+/// 8/14: what a command is converted to: a number, or 0 and so many command values in the front places of the six.
 #[derive(Clone, Copy, Debug, PartialEq, Eq)]
 pub struct Converted {
     pub number: u8,
     pub count: usize,
     pub values: [CommandValue; MOST_VALUES],
-    pub master: u8,
 }
 
 impl Converted {
@@ -57,21 +55,12 @@ fn value(command: Command) -> CommandValue {
 }
 
 /// Lines of the other bench make: places that are not used hold a reading of the status.
-fn in_places(commands: &[Command]) -> [CommandValue; MOST_VALUES] {
+fn in_places(number: u8, commands: &[Command]) -> Converted {
     let mut values = [value(Command::ReadStatus); MOST_VALUES];
     for (place, &command) in values.iter_mut().zip(commands) {
         *place = value(command);
     }
-    values
-}
-
-/// 9/14: the master to pass on is that of a move's start; a speed, a stop and a command that is turned away, which has
-/// no command values, keep the previous one, of which one over 4 counts as 0.
-fn passed_on(previous: u8, commands: &[Command]) -> u8 {
-    match commands.last() {
-        Some(&Command::Start { master }) => master,
-        _ => counted_master(previous),
-    }
+    Converted { number, count: commands.len(), values }
 }
 
 /// 8/14: the speed in units, or 29.
@@ -86,30 +75,29 @@ fn distance_command(axis: u8, distance: Distance) -> Result<Command, u8> {
     Ok(Command::Distance { axis, minus: distance.minus && pulses != 0, pulses })
 }
 
-/// 8/14: for a move the distances of axes 0 to 4, then the plain start with the picker's master. 9/14: the picker takes
-/// lengths, so that signs don't matter, and the previous master.
-fn move_commands(previous: u8, x: Distance, y: Distance) -> Result<Vec<Command>, u8> {
+/// 8/14: for a move the distances of axes 0 to 4, then the plain start with the picker's master.
+fn move_commands(x: Distance, y: Distance) -> Result<Vec<Command>, u8> {
     let mut distances = [Distance::default(); AXES];
     (distances[0], distances[1]) = (x, y);
     let mut commands = Vec::new();
     for (axis, &distance) in (0..).zip(&distances) {
         commands.push(distance_command(axis, distance)?);
     }
-    commands.push(Command::Start { master: pick_master(previous, distances.map(|distance| distance.pulses)) });
+    commands.push(Command::Start { master: pick_master(distances.map(|distance| distance.pulses)) });
     Ok(commands)
 }
 
 /// 8/14: the commands of what is asked for, or 29. INC moves one axis, LNI two; SST becomes the stop order.
-fn commands_of(previous: u8, asked: Asked) -> Result<Vec<Command>, u8> {
+fn commands_of(asked: Asked) -> Result<Vec<Command>, u8> {
     match asked {
         Asked::Speed { pps } => Ok(vec![speed_command(pps)?]),
-        Asked::Move { x, y } => move_commands(previous, x, y),
+        Asked::Move { x, y } => move_commands(x, y),
         Asked::Stop => Ok(vec![Command::Stop]),
     }
 }
 
 /// 8/14: the commands, or 27, 28 and 29 in this order. Of a command that this bench lacks the form is not judged.
-fn commands(previous: u8, command: &[u8]) -> Result<Vec<Command>, u8> {
+fn commands(command: &[u8]) -> Result<Vec<Command>, u8> {
     let name = names::name_of(command);
     if !NAMES.contains(&name) {
         return Err(NO_COMMAND);
@@ -117,16 +105,13 @@ fn commands(previous: u8, command: &[u8]) -> Result<Vec<Command>, u8> {
     if !CONVERTED.contains(&name) {
         return Err(LACKED);
     }
-    commands_of(previous, form::read(command).ok_or(NO_COMMAND)?)
+    commands_of(form::read(command).ok_or(NO_COMMAND)?)
 }
 
-/// 8/14: the bytes of one command, its 00 included, are converted; 9/14: after the previous master. This is total: any
-/// bytes have an answer, with any previous master.
-pub fn convert(previous: u8, command: &[u8]) -> Converted {
-    let (number, commands) = match commands(previous, command) {
-        Ok(commands) => (0, commands),
-        Err(number) => (number, Vec::new()),
-    };
-    let master = passed_on(previous, &commands);
-    Converted { number, count: commands.len(), values: in_places(&commands), master }
+/// 8/14: the bytes of one command, its 00 included, are converted. This is total: any bytes have an answer.
+pub fn convert(command: &[u8]) -> Converted {
+    match commands(command) {
+        Ok(commands) => in_places(0, &commands),
+        Err(number) => in_places(number, &[]),
+    }
 }

@@ -3,9 +3,6 @@
 /// Paper 02, 7/14: the identifications.
 pub(crate) const IDENTIFICATIONS: &str = "0123456789ABCDEFabcdef";
 
-/// Paper 02, 9/14: the previous masters that the stored vectors try: each axis, and some over 4, which count as 0.
-pub(crate) const PREVIOUS_MASTERS: [u8; 10] = [0, 1, 2, 3, 4, 5, 8, 9, 128, 255];
-
 /// Turned away, 7, 19 and 20: the characters next to 0-9, A-F and a-f, which are no identification.
 pub(crate) const NEXT_TO_THEM: &str = "/:@G`g";
 

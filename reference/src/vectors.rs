@@ -7,7 +7,7 @@ mod reader;
 mod station;
 mod writer;
 
-use crate::fields::{bytes_text, eight_digits, printed, run_lines, split, two_digits};
+use crate::fields::{bytes_text, eight_digits, printed, run_lines, split};
 use crate::host::pick_master;
 use std::io::{self, BufRead, Write};
 
@@ -33,8 +33,8 @@ fn written_text(number: u8, end: usize, buf: &[u8]) -> String {
     format!("{number:02} {end:02X} {}\n", bytes_text(buf))
 }
 
-/// Stored vectors, M: the master picker, of the previous master and the distances of axes 0 to 4.
-fn picker_line(previous: &[u8], fields: &[&[u8]]) -> Option<String> {
+/// Stored vectors, M: the master picker, of the distances of axes 0 to 4.
+fn picker_line(fields: &[&[u8]]) -> Option<String> {
     if fields.len() != 5 {
         return None;
     }
@@ -42,7 +42,7 @@ fn picker_line(previous: &[u8], fields: &[&[u8]]) -> Option<String> {
     for (distance, field) in distances.iter_mut().zip(fields) {
         *distance = eight_digits(field)?;
     }
-    Some(format!("{:X}\n", pick_master(two_digits(previous)?, distances)))
+    Some(format!("{:X}\n", pick_master(distances)))
 }
 
 /// Stored vectors: one line in one of the forms, or `None`.
@@ -51,8 +51,8 @@ fn obey(line: &[u8]) -> Option<String> {
     match fields[..] {
         [b"W", ..] => writer::writer_line(&fields[1..]),
         [b"B", bytes] => reader::reader_line(bytes),
-        [b"C", previous, bytes] => station::station_line(previous, bytes),
-        [b"M", previous, ..] => picker_line(previous, &fields[2..]),
+        [b"C", bytes] => station::station_line(bytes),
+        [b"M", ..] => picker_line(&fields[1..]),
         [b"F", kind, sign, m, exponent] => figures::figure_line(kind, sign, m, exponent),
         [b"U", kind, n] => figures::units_line(kind, n),
         [b"D", kind] => figures::digest_line(kind),

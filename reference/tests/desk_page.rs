@@ -1,6 +1,6 @@
 //! Desk: each row of the tables of the page on the line protocol, section "From words", and its stored input.
 
-use reference::desk::{answer, Desk, SENTENCES};
+use reference::desk::{answer, SENTENCES};
 use reference::make_desk::desk_text;
 use std::fs;
 
@@ -21,27 +21,13 @@ fn rows(heading: &str) -> Vec<Vec<String>> {
         .collect()
 }
 
-/// The heading of the table that a fresh desk answers row by row.
-const AT_A_FRESH_DESK: &str = "| Typed at a fresh desk, in this order | Why | What is printed |";
-
-/// The headings of the other tables with examples, in the order of the page.
+/// The headings of the tables with examples, in the order of the page.
 const HEADINGS: [&str; 4] = [
     "| Words | What they ask for | Line |",
     "| Words, with neither `silent` nor `as` | What is printed | Example |",
     "| Line | What is printed |",
     "| Reply | In words |",
 ];
-
-/// The first cells of the table of previous masters; each row prints its last cell, a space between two lines.
-fn rows_at_a_fresh_desk() -> Vec<String> {
-    let rows = rows(AT_A_FRESH_DESK);
-    let mut desk = Desk::fresh();
-    for row in &rows {
-        let lines = row[2].replace("` `", "\n");
-        assert_eq!(desk.answer(row[0].as_bytes()), format!("{lines}\n"), "{}", row[0]);
-    }
-    rows.into_iter().map(|row| row[0].clone()).collect()
-}
 
 /// The first cells of the table with this heading, of which each row prints its last cell.
 fn rows_hold(heading: &str) -> Vec<String> {
@@ -86,7 +72,6 @@ fn the_tables_in_their_order() {
     let section = section();
     let places = HEADINGS.map(|heading| section.find(heading).unwrap());
     assert!(places.is_sorted());
-    assert!((places[1]..places[2]).contains(&section.find(AT_A_FRESH_DESK).unwrap()));
     let texts: Vec<usize> = section
         .match_indices("` prints\n")
         .chain(section.match_indices("` prints `"))
@@ -98,7 +83,6 @@ fn the_tables_in_their_order() {
 #[test]
 fn each_row_of_the_page() {
     examples();
-    assert_eq!(rows_at_a_fresh_desk().len(), 12);
     let sentences: Vec<String> = rows("| Number | Sentence |").into_iter().map(|row| row[1].clone()).collect();
     assert_eq!(sentences, SENTENCES);
 }
@@ -107,7 +91,7 @@ fn each_row_of_the_page() {
 fn the_stored_input_begins_with_the_page() {
     let text = desk_text();
     let stored: Vec<&[u8]> = text.split(|&byte| byte == b'\n').collect();
-    let examples = [rows_at_a_fresh_desk(), examples()].concat();
+    let examples = examples();
     assert!(examples.len() < stored.len());
     for (line, example) in stored.iter().zip(examples) {
         assert_eq!(*line, example.as_bytes());
@@ -118,9 +102,8 @@ fn the_stored_input_begins_with_the_page() {
 fn what_the_stored_input_reaches() {
     let text = desk_text();
     let stored: Vec<&[u8]> = text.split(|&byte| byte == b'\n').collect();
-    assert!(stored.len() <= 1_900 && !stored[stored.len() - 1].is_empty());
-    let mut desk = Desk::fresh();
-    let printed: Vec<String> = stored.iter().map(|line| desk.answer(line)).collect();
+    assert!(stored.len() <= 1_400 && !stored[stored.len() - 1].is_empty());
+    let printed: Vec<String> = stored.iter().map(|line| answer(line)).collect();
     for number in [3, 4, 5, 6, 7, 8, 9, 10, 11, 12, 13, 14, 15, 16, 17, 19, 20, 21, 25, 26, 27, 28, 29] {
         let begins = format!("turned away by {number}: ");
         assert!(printed.iter().any(|line| line.starts_with(&begins)), "{number}");

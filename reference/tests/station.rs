@@ -2,13 +2,8 @@
 
 mod common;
 use common::station::{becomes, moves, turned_away};
-use reference::station::{convert, Converted, CONVERTED, NAMES};
+use reference::station::{convert, CONVERTED, NAMES};
 use reference::Command;
-
-/// What a fresh host's converter answers to bytes.
-fn fresh(bytes: &[u8]) -> Converted {
-    convert(0, bytes)
-}
 
 #[test]
 fn the_examples_of_the_document() {
@@ -34,7 +29,7 @@ fn one_axis_and_two() {
     }
 }
 
-/// Of two that are 0 a fresh host's master is axis 0.
+/// Of two that are 0 the picker's master is axis 0.
 #[test]
 fn zero_is_plus() {
     for zero in ["0", "-0", "000", "-000"] {
@@ -63,7 +58,7 @@ fn every_name_of_three_capitals() {
         let name = [place / 676, place / 26 % 26, place % 26].map(|letter| b'A' + letter as u8);
         let expected = if !NAMES.contains(&&name[..]) || CONVERTED.contains(&&name[..]) { 27 } else { 28 };
         for behind in [&b""[..], b"\0", b" ", b" \0", b" X\xFF\0", b"\0\0", b"\0X 5\0"] {
-            assert_eq!(fresh(&[&name, behind].concat()).number, expected, "{name:?} {behind:?}");
+            assert_eq!(convert(&[&name, behind].concat()).number, expected, "{name:?} {behind:?}");
         }
         for behind in [&b" X\0"[..], b" X 5\0", b" X 5,Y 5\0", b" X 0\0"] {
             let taken = [&b"SST X\0"[..], b"SPD X 5\0", b"INC X 5\0", b"INC X 0\0", b"LNI X 5,Y 5\0"];
@@ -73,7 +68,7 @@ fn every_name_of_three_capitals() {
                 false if taken.contains(&&command[..]) => 0,
                 false => expected,
             };
-            assert_eq!(fresh(&command).number, number, "{command:?}");
+            assert_eq!(convert(&command).number, number, "{command:?}");
         }
     }
 }
@@ -120,13 +115,13 @@ fn another_form_goes_before_a_number_out_of_range() {
 #[test]
 fn the_null() {
     for text in [&b"SST X"[..], b"SST X\0\0", b"SST X\0 ", b"\0SST X\0", b"SST\0X\0", b"SST X\0Y\0", b"INC X 5\0\r"] {
-        assert_eq!(fresh(text).number, 27, "{text:?}");
+        assert_eq!(convert(text).number, 27, "{text:?}");
     }
     for text in [&b""[..], b"\0", b"\0\0", b" \0"] {
-        assert_eq!(fresh(text).number, 27, "{text:?}");
+        assert_eq!(convert(text).number, 27, "{text:?}");
     }
     for text in [&b"RST"[..], b"RST\0", b"RST\0\0", b"RST \0X", b"RST\0SST X\0"] {
-        assert_eq!(fresh(text).number, 28, "{text:?}");
+        assert_eq!(convert(text).number, 28, "{text:?}");
     }
 }
 
@@ -139,14 +134,14 @@ fn every_byte_in_every_place() {
             let more = [&command[..place], &[byte], &command[place..]].concat();
             let digit = byte.is_ascii_digit();
             let taken = (place == 6 && (digit || byte == b'-')) || (place == 7 && digit);
-            assert_eq!(fresh(&more).number, if taken { 0 } else { 27 }, "{more:?}");
+            assert_eq!(convert(&more).number, if taken { 0 } else { 27 }, "{more:?}");
             let Some(less) = command.len().checked_sub(1 + place) else { continue };
             let other = [&command[..place], &[byte], &command[command.len() - less..]].concat();
             let taken = (place == 4 && (byte == b'Y')) || (place == 6 && digit) || byte == command[place];
-            assert_eq!(fresh(&other).number, if taken { 0 } else { 27 }, "{other:?}");
+            assert_eq!(convert(&other).number, if taken { 0 } else { 27 }, "{other:?}");
         }
     }
     for place in 0..command.len() {
-        assert_eq!(fresh(&[&command[..place], &command[place + 1..]].concat()).number, 27);
+        assert_eq!(convert(&[&command[..place], &command[place + 1..]].concat()).number, 27);
     }
 }

@@ -1,41 +1,27 @@
 //! Paper 02, 8/14: converted commands, written as lines and executed, move exactly the distances named.
 
 mod common;
-use common::station::ended_after;
+use common::station::ended;
 use common::{accept, number, on, send, until_rest};
 use reference::{write_line, Machine};
 
-/// The lines of a command's values after a previous master, without their 0D, and the master that is passed on.
-fn lines_after(previous: u8, text: &str) -> (Vec<String>, u8) {
+/// The lines of a command's values, without their 0D.
+fn lines(text: &str) -> Vec<String> {
     let mut buf = [0; 10];
     let line = |value| {
         let length = write_line(value, &mut buf).unwrap();
         String::from_utf8(buf[..length - 1].to_vec()).unwrap()
     };
-    let converted = ended_after(previous, text);
-    (converted.used().iter().map(line).collect(), converted.master)
+    ended(text).used().iter().map(line).collect()
 }
 
-/// The lines of a command, of a fresh host.
-fn lines(text: &str) -> Vec<String> {
-    lines_after(0, text).0
-}
-
-/// The lines of a command go in, and ticks until the move has ended; the number of the last line. The master is passed
-/// on.
-fn execute_after(previous: &mut u8, machine: &mut Machine, text: &str) -> u8 {
-    let (lines, master) = lines_after(*previous, text);
-    let numbers: Vec<u8> = lines.iter().map(|line| number(machine, line)).collect();
+/// The lines of a command go in, and ticks until the move has ended; the number of the last line.
+fn execute(machine: &mut Machine, text: &str) -> u8 {
+    let numbers: Vec<u8> = lines(text).iter().map(|line| number(machine, line)).collect();
     let (last, before) = numbers.split_last().unwrap();
     assert!(before.iter().all(|&number| number == 0), "{text}");
     until_rest(machine, 0);
-    *previous = master;
     *last
-}
-
-/// The same of a fresh host.
-fn execute(machine: &mut Machine, text: &str) -> u8 {
-    execute_after(&mut 0, machine, text)
 }
 
 /// A fast controller without a watch; the distances of its last move, of all axes, are still set.
@@ -72,12 +58,9 @@ fn distance(drawn: &mut u64) -> i64 {
     draw(drawn, 2 * most - 1) - most as i64 + 1
 }
 
-/// A drawn command and the distances that it names for X and Y, now and then as long.
+/// A drawn command and the distances that it names for X and Y.
 fn command(drawn: &mut u64) -> (String, [i64; 2]) {
-    let (x, mut y) = (distance(drawn), distance(drawn));
-    if draw(drawn, 3) == 0 {
-        y = if draw(drawn, 2) == 0 { x } else { -x };
-    }
+    let (x, y) = (distance(drawn), distance(drawn));
     match draw(drawn, 8) {
         0 => (format!("SPD X {}", 1_000 + draw(drawn, 249_001)), [0, 0]),
         1 => (format!("SPD Y {}", 50_000 + draw(drawn, 200_001)), [0, 0]),
@@ -89,19 +72,17 @@ fn command(drawn: &mut u64) -> (String, [i64; 2]) {
     }
 }
 
-/// Any list of commands after any previous master: each position changes by the sum of what was named for it. A move of
-/// 0 alone is turned away.
+/// Any list of commands: each position changes by the sum of what was named for it. A move of 0 alone is turned away.
 #[test]
 fn any_list_moves_what_it_names() {
     let (mut drawn, mut moved) = (1, 0);
-    for first in 0..20 {
+    for _ in 0..20 {
         let mut machine = moved_before();
-        let (mut previous, mut expected) = (first % 7, machine.positions().map(i64::from));
+        let mut expected = machine.positions().map(i64::from);
         for _ in 0..40 {
             let (text, named) = command(&mut drawn);
             let nothing = named == [0, 0] && !text.starts_with('S');
-            let number = execute_after(&mut previous, &mut machine, &text);
-            assert_eq!(number, if nothing { 15 } else { 0 }, "{text}");
+            assert_eq!(execute(&mut machine, &text), if nothing { 15 } else { 0 }, "{text}");
             (expected[0], expected[1]) = (expected[0] + named[0], expected[1] + named[1]);
             assert_eq!(machine.positions().map(i64::from), expected, "{text}");
             moved += u32::from(named != [0, 0]);

@@ -1,7 +1,7 @@
 //! Host end: writer and master picker.
 
 use reference::line::read_line;
-use reference::{write_line, Command, CommandValue, Digit};
+use reference::{pick_master, write_line, Command, CommandValue, Digit};
 
 /// Every command with its full line.
 const FULL_LINES: [(Command, &[u8]); 20] = [
@@ -90,4 +90,14 @@ fn a_line_buffer_of_ten_bytes_is_enough() {
     let value = CommandValue { command: Command::Stop, silent: false, identification: Some(b'A') };
     assert_eq!(write_line(&value, &mut buf), Ok(10));
     assert_eq!(&buf, b"Q0900000A\r");
+}
+
+#[test]
+fn master_picker() {
+    assert_eq!(pick_master([0; 5]), 0);
+    assert_eq!(pick_master([1, 1, 1, 1, 1]), 0);
+    assert_eq!(pick_master([0, 3, 2, 3, 1]), 1);
+    assert_eq!(pick_master([0, 0, 0, 0, 1]), 4);
+    assert_eq!(pick_master([5, 6, 7, 8, 8]), 3);
+    assert_eq!(pick_master([u32::MAX, 0, 0, 0, u32::MAX]), 0);
 }

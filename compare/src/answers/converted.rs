@@ -1,12 +1,12 @@
 //! Commands in the lines for the host end: those that were converted, and those that a number turned away.
 
-use crate::picked::station_line;
+use super::identified::bytes_of;
 use crate::station::Commands;
 use reference::station::NULL;
 
 /// The command of a `C` line that has the form, without its 00.
 fn command_of(line: &[u8]) -> Option<Vec<u8>> {
-    let (_, mut bytes) = station_line(line)?;
+    let mut bytes = bytes_of(line, b"C ")?;
     if bytes.last() == Some(&NULL) {
         bytes.pop();
     }

@@ -9,7 +9,7 @@ fn byte_of(digits: &[u8]) -> Option<u8> {
 }
 
 /// The bytes behind the front of a line that has the form.
-fn bytes_of(line: &[u8], front: &[u8]) -> Option<Vec<u8>> {
+pub fn bytes_of(line: &[u8], front: &[u8]) -> Option<Vec<u8>> {
     line.strip_prefix(front)?.chunks(2).map(byte_of).collect()
 }
 

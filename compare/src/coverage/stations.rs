@@ -1,9 +1,8 @@
-//! Counters of moves that a station of the other bench make asks for (paper 02, 8/14), and checks of their own: that
-//! the positions tell the distances that the text names, and that a start names the master that is due (9/14).
+//! Counters of moves that a station of the other bench make asks for (paper 02, 8/14), and a check of their own: that
+//! the positions tell the distances that the text names.
 
-use crate::counted::{add_each, grouped, listed, not_met, Named};
-use crate::picked::{start_master, Picks};
-use crate::station::{is_move, lengths_named, named, MOVE_LINES};
+use crate::counted::{add_each, grouped, listed, Named};
+use crate::station::{is_move, named, MOVE_LINES};
 use std::fmt;
 
 /// Positions of axes 0 to 4.
@@ -19,9 +18,6 @@ pub enum End {
     Left,
 }
 
-/// Axes that such a move may have for a master among equals.
-const AXES: usize = 2;
-
 const END_NAMES: [&str; 3] = ["ended with exactly the distances named", "stopped", "left"];
 
 #[derive(Clone, Debug, Default)]
@@ -30,9 +26,7 @@ pub struct Stations {
     commands: Named<String>,
     numbers: Named<u8>,
     ends: [u64; 3],
-    masters: Picks,
-    /// The first one that became other lines, named another master, got a number that it may not get or came to other
-    /// distances, in words.
+    /// The first one that became other lines, got a number that it may not get or came to other distances, in words.
     wrong: Option<String>,
 }
 
@@ -60,18 +54,6 @@ impl Stations {
         }
     }
 
-    /// A move that became these lines after a previous master, and the master to pass on.
-    pub fn converted(&mut self, previous: u8, text: &str, lines: &[String], passed_on: u8) {
-        let started = lines.last().and_then(|line| start_master(line));
-        let (Some(lengths), true) = (lengths_named(text.as_bytes()), is_move(text.as_bytes())) else { return };
-        if started != Some(passed_on) {
-            self.found_wrong(format!("{text} became {}, master {passed_on} is passed on", lines.join(" ")));
-        }
-        if let Err(words) = self.masters.judge(previous, &lengths, &passed_on.to_string()) {
-            self.found_wrong(format!("{text}: {words}"));
-        }
-    }
-
     fn found_wrong(&mut self, words: String) {
         self.wrong.get_or_insert(words);
     }
@@ -92,12 +74,6 @@ impl Stations {
         }
     }
 
-    /// A line that says what was not met of the masters of moves; nothing where all was.
-    pub fn masters_not_met(&self) -> String {
-        let over_4 = ("previous over 4".to_string(), self.masters.over_4());
-        not_met(self.masters.named(AXES).chain([over_4]))
-    }
-
     /// What is wrong with one of them, in words.
     pub fn wrong(&self) -> Option<&str> {
         self.wrong.as_deref()
@@ -107,7 +83,6 @@ impl Stations {
         self.commands.add(&more.commands);
         self.numbers.add(&more.numbers);
         add_each(&mut self.ends, &more.ends);
-        self.masters.add(&more.masters);
         more.wrong.iter().for_each(|words| self.found_wrong(words.clone()));
     }
 }
@@ -117,8 +92,7 @@ impl fmt::Display for Stations {
         write!(f, "  commands of the other make {}: {}", grouped(self.commands.sum()), self.commands.listed())?;
         writeln!(f, "; turned away by {}", self.numbers.listed_with_colons())?;
         let began = grouped(self.ends.iter().sum());
-        writeln!(f, "  their moves that began {began}: {}", listed(END_NAMES.iter().zip(self.ends)))?;
-        writeln!(f, "  masters of all their moves {}", self.masters.told(AXES))
+        writeln!(f, "  their moves that began {began}: {}", listed(END_NAMES.iter().zip(self.ends)))
     }
 }
 
@@ -141,18 +115,6 @@ mod tests {
             seen.whole("LNI X 5, Y -3", [1, 1, 7, 0, 0], after);
             assert!(seen.wrong().is_some_and(|words| words.starts_with("LNI X 5, Y -3 from ")));
         }
-    }
-
-    #[test]
-    fn another_master_is_found() {
-        let said = |previous, start: &str, passed_on| {
-            let mut seen = Stations::default();
-            seen.converted(previous, "LNI X 5, Y -5", &[start.to_string()], passed_on);
-            seen.wrong().map(str::to_string)
-        };
-        assert_eq!(said(0, "Q0800000", 0).or(said(1, "Q0810000", 1)).or(said(2, "Q0810000", 1)), None);
-        assert!(said(0, "Q0800000", 1).is_some_and(|words| words.ends_with("master 1 is passed on")));
-        assert!(said(2, "Q0800000", 0).is_some_and(|words| words.ends_with("where 1 is due (highest)")));
     }
 
     #[test]

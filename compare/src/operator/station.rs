@@ -1,7 +1,6 @@
 //! Moves as a station of the other bench make asks for them (paper 02, 8/14): most to their ends, the positions read
 //! before and behind them.
 
-mod host;
 mod positions;
 mod texts;
 
@@ -9,10 +8,8 @@ use super::Operator;
 use crate::bench::Bench;
 use crate::bits::MOVING;
 use crate::coverage::{End, Positions};
-use crate::station::{stop, MOST_PPS};
+use crate::station::{lines, stop, MOST_PPS};
 use texts::speed;
-
-pub(super) use host::Host;
 
 /// After so many runs of ticks a move is hurried.
 const HURRIED: u32 = 10;
@@ -20,7 +17,7 @@ const HURRIED: u32 = 10;
 impl Operator {
     /// The lines of a command go in; the first number that turns one away, or 0, unless a byte of them is lost.
     fn give<B: Bench>(&mut self, bench: &mut B, command: &str) -> Option<u8> {
-        let lines = self.host.lines(bench.stations(), command);
+        let lines = lines(command);
         let sent: Vec<Option<u8>> = lines.iter().map(|line| Some(self.send_whole(bench, line)?.0)).collect();
         let numbers: Vec<u8> = sent.into_iter().collect::<Option<_>>()?;
         let number = numbers.into_iter().find(|&number| number != 0).unwrap_or(0);
@@ -111,6 +108,5 @@ mod tests {
         assert_eq!(seen.stations.wrong(), None);
         assert!(["INC ", "LNI ", "SPD ", "SST ", "11: ", "15: "].iter().all(|part| told.contains(part)), "{told}");
         assert!(![" 0,", " 0\n"].iter().any(|none| told.contains(none)), "{told}");
-        assert_eq!(seen.stations.masters_not_met(), "", "{told}");
     }
 }

@@ -15,23 +15,10 @@ pub fn comma(random: &mut Random) -> &'static str {
     random.pick(&[",", ", "])
 }
 
-/// A number as a distance of either sign.
-fn signed(random: &mut Random, number: &str) -> String {
-    format!("{}{number}", random.pick(&["", "-"]))
-}
-
-/// The digits of a distance, oftener than other numbers 0.
-fn digits(random: &mut Random) -> String {
-    if random.chance(10) {
-        "0".to_string()
-    } else {
-        number(random, LONGEST)
-    }
-}
-
+/// A distance of either sign.
 fn distance(random: &mut Random) -> String {
-    let digits = digits(random);
-    signed(random, &digits)
+    let sign = random.pick(&["", "-"]);
+    format!("{sign}{}", number(random, LONGEST))
 }
 
 /// A stop in one of its four forms.
@@ -39,12 +26,9 @@ pub fn stop(random: &mut Random) -> String {
     format!("SST {}", random.pick(&["X", "Y", "X,Y", "X, Y"]))
 }
 
-/// A move of both axes, often as long, whatever the signs and the zeros before them.
+/// A move of both axes.
 fn both(random: &mut Random) -> String {
-    let (one, any) = (digits(random), digits(random));
-    let same = format!("{}{one}", random.pick(&["", "", "0", "00"]));
-    let other = if random.chance(40) { same } else { any };
-    format!("LNI X {}{}Y {}", signed(random, &one), comma(random), signed(random, &other))
+    format!("LNI X {}{}Y {}", distance(random), comma(random), distance(random))
 }
 
 /// One that names both axes.
@@ -53,15 +37,6 @@ pub fn of_both(random: &mut Random) -> String {
         both(random)
     } else {
         format!("SST X{}Y", comma(random))
-    }
-}
-
-/// A move of one axis or of both.
-pub fn any_move(random: &mut Random) -> String {
-    if random.chance(30) {
-        format!("INC {} {}", axis(random), distance(random))
-    } else {
-        both(random)
     }
 }
 

@@ -20,12 +20,12 @@ const NEAR: [u32; 3] = [300, 2_500, 20_000];
 /// Of the other doses that take long one in so many is tried to the end.
 const UNWATCHED: u32 = 250;
 
-/// Mostly the longest axis, of equals any; at times another, or none of the five.
+/// Mostly the longest axis; at times another, or none of the five.
 fn master(random: &mut Random, distances: [u32; 5]) -> u32 {
     match random.below(25) {
         0 => random.pick(&[5, 9, 255, u32::MAX]),
         1..=4 => random.below(5),
-        _ => pick_master(random.below(5) as u8, distances) as u32,
+        _ => pick_master(distances) as u32,
     }
 }
 

@@ -1,7 +1,5 @@
-//! `C`: a previous master, and commands of the other bench make with their 00, damaged by one byte, ended otherwise,
-//! and any bytes.
+//! `C`: commands of the other bench make with their 00, damaged by one byte, ended otherwise, and any bytes.
 
-use crate::picked::previous;
 use crate::random::Random;
 use crate::station::{any_name, command, near_form, near_name};
 use crate::touch::Touch;
@@ -89,7 +87,7 @@ pub fn line(random: &mut Random) -> String {
         drawn = bytes(random);
     }
     let digits: String = drawn.iter().map(|byte| format!("{byte:02X}")).collect();
-    format!("C {:02X} {digits}", previous(random))
+    format!("C {digits}")
 }
 
 #[cfg(test)]
@@ -105,7 +103,7 @@ mod tests {
         let share = |front: &str| answers.iter().filter(|answer| answer.starts_with(front)).count();
         assert!(["00 1 ", "00 6 ", "27 0 ", "28 0 ", "29 0 "].iter().all(|front| share(front) > 1_000));
         assert_eq!(share("?"), 0);
-        let length = "C hh ".len();
-        assert!((0..=47).all(|bytes| lines.iter().any(|line| line.len() == length + 2 * bytes)));
+        let length = "C ".len();
+        assert!((0..=48).all(|bytes| lines.iter().any(|line| line.len() == length + 2 * bytes)));
     }
 }

@@ -57,8 +57,7 @@ fn carry_on(random: &mut Random) -> String {
     random.pick(&NEAR_CARRY_ON).to_string()
 }
 
-/// A start, at once or after the dwell, and what is near these two.
-pub(super) fn start(random: &mut Random) -> String {
+fn start(random: &mut Random) -> String {
     let behind = random.pick(&["", "", "", " after dwell", " after dwell", " after dwell", " after", " dwell"]);
     format!("start {}{behind}", axis(random))
 }

@@ -2,26 +2,24 @@
 //! `trial` at its three.
 
 use super::number::{about, decimal, hexadecimal, spelled};
-use crate::picked::lengths;
 use crate::random::Random;
 use crate::trial::LAST_MASTER;
 use reference::bench::MOST_TICKS;
+use reference::command::LONGEST;
 use reference::machine::INPUT_WORD_END;
 
 const AXES: usize = 5;
 
-/// A distance in digits; those over 32 bits all count as the greatest of these, and stand in its place.
-fn distance(random: &mut Random, length: u32) -> String {
-    let over = length as u128 + about(random, u32::MAX);
-    let number = if length == u32::MAX && random.chance(70) { over } else { length as u128 };
-    spelled(random, number)
-}
-
-/// Distances of which some are equal; seldom more or fewer than five.
-pub(super) fn master(random: &mut Random) -> String {
-    let lengths = lengths(random);
+/// Distances of which some are equal; those over 32 bits all count as the greatest of these.
+fn master(random: &mut Random) -> String {
+    let most = random.pick(&[2, LONGEST, u32::MAX - 1]);
+    let (one, other) = (random.below(most) as u128, random.below(most) as u128);
     let count = if random.chance(94) { AXES } else { random.below(8) as usize };
-    let distances = (0..count).map(|at| format!(" {}", distance(random, lengths[at % AXES])));
+    let distances = (0..count).map(|_| {
+        let any = about(random, u32::MAX - 1);
+        let distance = random.pick(&[0, one, one, one, one + 1, other, other, any]);
+        format!(" {}", spelled(random, distance))
+    });
     format!("master{}", distances.collect::<String>())
 }
 
@@ -34,7 +32,7 @@ fn ticks(random: &mut Random) -> String {
 }
 
 /// A master, ticks and an input word of a trial, or the first ones of them; seldom none or one too many.
-pub(super) fn trial(random: &mut Random) -> String {
+fn trial(random: &mut Random) -> String {
     let numbers = [
         decimal(random, LAST_MASTER),
         decimal(random, MOST_TICKS),
@@ -47,10 +45,10 @@ pub(super) fn trial(random: &mut Random) -> String {
 
 /// Words in one of the forms.
 pub fn form(random: &mut Random) -> String {
-    match random.below(36) {
+    match random.below(30) {
         0 => "opening".to_string(),
-        1..=15 => master(random),
-        16..=25 => ticks(random),
+        1..=9 => master(random),
+        10..=19 => ticks(random),
         _ => trial(random),
     }
 }

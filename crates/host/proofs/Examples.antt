@@ -37,11 +37,8 @@ pub record Examples : Type 0 where
   pub carry_on_lem : line_of carry_on ≡ chars "Q0C00000" ++ (13 ∷ [])
   pub short_first : written_of too_fast (replicate 9 7) ≡ refused 18
   pub too_fast_lem : written_of too_fast (replicate 10 7) ≡ refused 19
-  pub highest_of_equals : master_of 0 (5 ∷ 9 ∷ 0 ∷ 9 ∷ 0 ∷ []) ≡ 3
-  pub previous_of_equals : master_of 1 (5 ∷ 9 ∷ 0 ∷ 9 ∷ 0 ∷ []) ≡ 1
-  pub previous_over : master_of 9 (5 ∷ 5 ∷ 0 ∷ 0 ∷ 0 ∷ []) ≡ 0
-  pub longest : master_of 0 (5 ∷ 9 ∷ 0 ∷ 0 ∷ 0 ∷ []) ≡ 1
-  pub all_rest : master_of 4 (0 ∷ 0 ∷ 0 ∷ 0 ∷ 0 ∷ []) ≡ 4
+  pub lowest_of_equals : master_of (5 ∷ 9 ∷ 0 ∷ 9 ∷ 9 ∷ []) ≡ 1
+  pub all_rest : master_of (0 ∷ 0 ∷ 0 ∷ 0 ∷ 0 ∷ []) ≡ 0
 
 pub examples : Examples
 unfolding line_of written_of buffer_of master_of block_of six_of over
@@ -55,9 +52,6 @@ examples =
       carry_on_lem = refl;
       short_first = refl;
       too_fast_lem = refl;
-      highest_of_equals = refl;
-      previous_of_equals = refl;
-      previous_over = refl;
-      longest = refl;
+      lowest_of_equals = refl;
       all_rest = refl;
     }

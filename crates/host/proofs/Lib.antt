@@ -7,6 +7,5 @@ pub mod RoundTrip
 pub mod MachineTrip
 pub mod LineTrips
 pub mod WatchLaws
-pub mod LongestLaws
 pub mod MasterLaws
 pub mod Examples

@@ -1,9 +1,10 @@
 // The host end (paper 01, "Host end and program"): the writer from a command value to a full line, and the master
-// picker (`master`); the line that host tools send first (paper 02, 2/14).
+// picker; the line that host tools send first (paper 02, 2/14).
 // Every public function is total: it has no premise, and states its result and the whole buffer for every input.
 // Assumes nothing.
 ghost use Rattle.std.specs.Prelude.{◌≤◌, ◌≡◌, length};
 ghost use Rattle.block.specs.Block.{over};
+ghost use Rattle.host.specs.Master.{none_longer, master_of, Longest};
 ghost use Rattle.host.specs.Writer.{
   ident_fits,
   is_absent,
@@ -18,11 +19,10 @@ ghost use Rattle.host.specs.Watch.{watch_off, WatchOff};
 
 use block::Block;
 use digits::{END, Ident};
-use line::command;
 use line::command::Command;
+use line::{command, distances};
 
 mod content;
-pub mod master;
 
 // The least line buffer.
 const LINE_ROOM: usize = 10;
@@ -128,4 +128,31 @@ pub fn watch_off() -> [u8; 5]
     ensures watch_off { WatchOff }
 {
     [b'P', b'0', b'B', b'0', END]
+}
+
+// Whether no axis is longer than this length.
+fn none_longer(distances: [u32; 5], length: u32) -> bool
+    ensures { result ≡ none_longer distances length }
+{
+    !distances::some_longer(distances, length)
+}
+
+// The master for a move with these distances: the longest; of equals the lowest axis; 0 if all are 0.
+pub fn pick_master(distances: [u32; 5]) -> u8
+    ensures value { result ≡ master_of distances }
+    ensures longest { Longest distances result }
+{
+    if none_longer(distances, distances[0]) {
+        return 0;
+    }
+    if none_longer(distances, distances[1]) {
+        return 1;
+    }
+    if none_longer(distances, distances[2]) {
+        return 2;
+    }
+    if none_longer(distances, distances[3]) {
+        return 3;
+    }
+    4
 }

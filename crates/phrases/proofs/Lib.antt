@@ -1,6 +1,4 @@
-pub mod AskedMasterLaws
 pub mod FirstWordLaws
-pub mod KeptMasterLaws
 pub mod NoCommandLaws
 pub mod PhraseLaws
 pub mod SameLineLaws

@@ -78,18 +78,8 @@ module _ (l : List ℕ) (c : Command) (e : meant_by (body_of l) ≡ M.Command c)
       (ap is_command (sym (meant_none (place_of (word 0 l)) h (body_of l))
       ∙ (ap (λ (w : List ℕ). meant_at (place_of w) (body_of l)) (sym p) ∙ e)))
 
-  -- It is not `master`.
-  pub no_master : place_of (word 0 l) ≡ K.master → ⊥
-  no_master q = when (is_silent l) refl
-    where
-      when : (t : Bool) → is_silent l ≡ t → ⊥
-      when true s =
-          let r : ◌≡◌ {A = ℕ} 20 23 = sym q ∙ (ap place_of (silent_first l s) ∙ silent_place) in
-          omega (arith, r)
-      when false s = early s (omega (arith, q))
-
-  placed : (p k : ℕ) → k < K.opening → text_at p k l ≡ command_text l
-  placed p k h =
+  placed : (k : ℕ) → k < K.opening → text_at k l ≡ command_text l
+  placed k h =
       rw (
         ne_eqb k 19 (λ (q : k ≡ 19). omega arith),
         ne_eqb k 20 (λ (q : k ≡ 20). omega arith),
@@ -97,25 +87,25 @@ module _ (l : List ℕ) (c : Command) (e : meant_by (body_of l) ≡ M.Command c)
         ne_eqb k 22 (λ (q : k ≡ 22). omega arith),
       )
 
-  taken : (p : ℕ) (t : Bool) → is_silent l ≡ t → text_at p (place_of (word 0 l)) l ≡ command_text l
-  taken p true s = ap (λ (k : ℕ). text_at p k l) (ap place_of (silent_first l s) ∙ silent_place)
-  taken p false s =
-      by_lt {A = ℕ} (λ (x : ℕ). text_at p (place_of (word 0 l)) l ≡ command_text l) (place_of (word 0 l)) 19 0 0
-      (placed p (place_of (word 0 l))) (λ h. absurd (early s h))
+  taken : (t : Bool) → is_silent l ≡ t → text_at (place_of (word 0 l)) l ≡ command_text l
+  taken true s = ap (λ (k : ℕ). text_at k l) (ap place_of (silent_first l s) ∙ silent_place)
+  taken false s =
+      by_lt {A = ℕ} (λ (x : ℕ). text_at (place_of (word 0 l)) l ≡ command_text l) (place_of (word 0 l)) 19 0 0
+      (placed (place_of (word 0 l))) (λ h. absurd (early s h))
 
-  commanded : (p : ℕ) → words_text p l ≡ command_text l
+  commanded : words_text l ≡ command_text l
   unfolding words_text
-  commanded p = taken p (is_silent l) refl
+  commanded = taken (is_silent l) refl
 
 -- The command's request is the one in the line.
 meant_line : (l : List ℕ) (c : Command) → meant_by (body_of l) ≡ M.Command c → command_text l ≡ line_text (request_in l c)
 unfolding command_text
 meant_line l c e = ap (request_text (is_silent l) (named_of (unsilenced l)).ident l) e
 
-said_line : (p : ℕ) (l : List ℕ) (c : Command) → meant_by (body_of l) ≡ M.Command c → has_line (request_in l c) ≡ true
-    → words_text p l ++ (end_byte ∷ []) ≡ line_of (request_in l c)
-said_line p l c e h =
-    ap (λ (x : List ℕ). x ++ (end_byte ∷ [])) (commanded l c e p ∙ meant_line l c e) ∙ whole_line (request_in l c) h
+said_line : (l : List ℕ) (c : Command) → meant_by (body_of l) ≡ M.Command c → has_line (request_in l c) ≡ true
+    → words_text l ++ (end_byte ∷ []) ≡ line_of (request_in l c)
+said_line l c e h =
+    ap (λ (x : List ℕ). x ++ (end_byte ∷ [])) (commanded l c e ∙ meant_line l c e) ∙ whole_line (request_in l c) h
 
 -- ---- The identification
 
@@ -135,16 +125,16 @@ last_typed l = when (is_silent l)
         get_or-drop 7 l (length (drop 7 l) - 1) 0 ∙ ap (λ (k : ℕ). get_or l k 0) (omega (arith, n, h))
     when false e = refl
 
-named_line : (p : ℕ) (l : List ℕ) (c : Command) → meant_by (body_of l) ≡ M.Command c → has_line (request_in l c) ≡ true
-    → has_ident (unsilenced l) ≡ true → get_or (words_text p l) 8 0 ≡ get_or l (length l - 1) 0
-named_line p l c e h t =
+named_line : (l : List ℕ) (c : Command) → meant_by (body_of l) ≡ M.Command c → has_line (request_in l c) ≡ true
+    → has_ident (unsilenced l) ≡ true → get_or (words_text l) 8 0 ≡ get_or l (length l - 1) 0
+named_line l c e h t =
     let x = get_or (unsilenced l) (length (unsilenced l) - 1) 0 in
     let i : (request_in l c).ident ≡ Given x = rw t in
     let n = ninth_of (request_in l c) x h i in
-    let s = said_line p l c e h in
-    let k : 8 < length (words_text p l) =
-    omega (arith, ap length s, n.0, length-append (words_text p l) (end_byte ∷ [])) in
-    sym (get_or-append (words_text p l) (end_byte ∷ []) 0 8 k)
+    let s = said_line l c e h in
+    let k : 8 < length (words_text l) =
+    omega (arith, ap length s, n.0, length-append (words_text l) (end_byte ∷ [])) in
+    sym (get_or-append (words_text l) (end_byte ∷ []) 0 8 k)
     ∙ (ap (λ (y : List ℕ). get_or y 8 0) s ∙ (n.1 ∙ last_typed l t))
 
 pub same_line : SameLine

@@ -145,19 +145,19 @@ tick_read n w h k l =
 
 -- ---- A line of words
 
-module _ (p : ℕ) (l : List ℕ) (first : place_of (word 0 l) ≡ K.ticks) (low : 1 ≤ number_at l 1)
+module _ (l : List ℕ) (first : place_of (word 0 l) ≡ K.ticks) (low : 1 ≤ number_at l 1)
     (high : number_at l 1 ≤ 1000000) where
-  said_text : (w : ℕ) → words l ≡ 3 → spelled_of 16 (word 2 l) ≡ Number w → words_text p l ≡ tick_text (number_at l 1) w
+  said_text : (w : ℕ) → words l ≡ 3 → spelled_of 16 (word 2 l) ≡ Number w → words_text l ≡ tick_text (number_at l 1) w
   unfolding words_text
   said_text w e s = rw (first, e, s, le-leb 1 (number_at l 1) low, le-leb (number_at l 1) 1000000 high)
 
-  alone_text : words l ≡ 2 → words_text p l ≡ tick_text (number_at l 1) 0
+  alone_text : words l ≡ 2 → words_text l ≡ tick_text (number_at l 1) 0
   unfolding words_text
   alone_text e = rw (first, e, le-leb 1 (number_at l 1) low, le-leb (number_at l 1) 1000000 high)
 
 pub tick_line : TickLine
 tick_line = record {
   asked = tick_read;
-  said = λ p l w f e low high s h. ap asked_of (said_text p l f low high w e s) ∙ tick_read (number_at l 1) w low high h;
-  alone = λ p l f e low high. ap asked_of (alone_text p l f low high e) ∙ tick_read (number_at l 1) 0 low high (omega arith);
+  said = λ l w f e low high s h. ap asked_of (said_text l f low high w e s) ∙ tick_read (number_at l 1) w low high h;
+  alone = λ l f e low high. ap asked_of (alone_text l f low high e) ∙ tick_read (number_at l 1) 0 low high (omega arith);
 }

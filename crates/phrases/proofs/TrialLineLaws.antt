@@ -106,24 +106,24 @@ trial_read k n w g h l =
 
 -- ---- A line of words
 
-module _ (r : ℕ) (l : List ℕ) (k : ℕ) (first : place_of (word 0 l) ≡ K.trial) (m : spelled_of 10 (word 1 l) ≡ Number k) where
+module _ (l : List ℕ) (k : ℕ) (first : place_of (word 0 l) ≡ K.trial) (m : spelled_of 10 (word 1 l) ≡ Number k) where
   said_text : (n w : ℕ) → words l ≡ 4 → spelled_of 10 (word 2 l) ≡ Number n → spelled_of 16 (word 3 l) ≡ Number w
-      → words_text r l ≡ trial_line_text k n w
+      → words_text l ≡ trial_line_text k n w
   unfolding words_text
   said_text n w e p q = rw (first, e, m, p, q)
 
-  wordless_text : (n : ℕ) → words l ≡ 3 → spelled_of 10 (word 2 l) ≡ Number n → words_text r l ≡ trial_line_text k n 0
+  wordless_text : (n : ℕ) → words l ≡ 3 → spelled_of 10 (word 2 l) ≡ Number n → words_text l ≡ trial_line_text k n 0
   unfolding words_text
   wordless_text n e p = rw (first, e, m, p)
 
-  alone_text : words l ≡ 2 → words_text r l ≡ trial_line_text k 1000000 0
+  alone_text : words l ≡ 2 → words_text l ≡ trial_line_text k 1000000 0
   unfolding words_text
   alone_text e = rw (first, e, m)
 
 pub trial_line : TrialLine
 trial_line = record {
   asked = trial_read;
-  said = λ r l k n w f e m p q g h i. ap asked_of (said_text r l k f m n w e p q) ∙ trial_read k n w g h i;
-  wordless = λ r l k n f e m p g h. ap asked_of (wordless_text r l k f m n e p) ∙ trial_read k n 0 g h (omega arith);
-  alone = λ r l k f e m g. ap asked_of (alone_text r l k f m e) ∙ trial_read k 1000000 0 g (omega arith) (omega arith);
+  said = λ l k n w f e m p q g h i. ap asked_of (said_text l k f m n w e p q) ∙ trial_read k n w g h i;
+  wordless = λ l k n f e m p g h. ap asked_of (wordless_text l k f m n e p) ∙ trial_read k n 0 g h (omega arith);
+  alone = λ l k f e m g. ap asked_of (alone_text l k f m e) ∙ trial_read k 1000000 0 g (omega arith) (omega arith);
 }

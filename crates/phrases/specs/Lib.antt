@@ -1,4 +1,3 @@
-pub mod Masters
 pub mod Meanings
 pub mod Phrases
 pub mod Promises

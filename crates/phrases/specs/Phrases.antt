@@ -68,7 +68,7 @@ command_text l = request_text (is_silent l) (named_of (unsilenced l)).ident l (m
 abbrev pub opening_text : List ℕ → List ℕ
 opening_text l = cond (eqb (words l) 1) (part end_byte 0 watch_off) (nearest_text l)
 
--- ---- `master` and five distances: the picker's axis behind the previous master p (paper 02, 9/14)
+-- ---- `master` and five distances: the picker's axis
 
 abbrev pub is_number : Spelled → Bool
 is_number S.Not = false
@@ -101,9 +101,9 @@ are_distances l =
 abbrev pub distances_of : List ℕ → List ℕ
 distances_of l = number_at l 1 ∷ number_at l 2 ∷ number_at l 3 ∷ number_at l 4 ∷ number_at l 5 ∷ []
 
-abbrev pub master_text : ℕ → List ℕ → List ℕ
-master_text p l =
-    cond (are_distances l) (chars "master " ++ decimal_of (master_of p (distances_of l)))
+abbrev pub master_text : List ℕ → List ℕ
+master_text l =
+    cond (are_distances l) (chars "master " ++ decimal_of (master_of (distances_of l)))
     (nearest_text l)
 
 -- ---- `ticks`, their number, and an input word or none: the bench program's T line
@@ -154,16 +154,16 @@ trial_text l =
 
 -- ---- A line of words, by the place of its first
 
-abbrev pub text_at : ℕ → ℕ → List ℕ → List ℕ
-text_at p k l =
+abbrev pub text_at : ℕ → List ℕ → List ℕ
+text_at k l =
     cond (eqb k K.opening) (opening_text l)
-    (cond (eqb k K.master) (master_text p l)
+    (cond (eqb k K.master) (master_text l)
     (cond (eqb k K.ticks) (ticks_text l)
     (cond (eqb k K.trial) (trial_text l)
     (command_text l))))
 
-unfoldable pub words_text : ℕ → List ℕ → List ℕ
-words_text p l = text_at p (place_of (word 0 l)) l
+unfoldable pub words_text : List ℕ → List ℕ
+words_text l = text_at (place_of (word 0 l)) l
 
 -- Of a line that is too long the first 100 characters are looked at.
 unfoldable pub overlong_text : List ℕ → List ℕ

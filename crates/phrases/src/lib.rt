@@ -16,8 +16,7 @@ ghost use Rattle.phrases.specs.Phrases.{
   words_text,
   overlong_text,
 };
-ghost use Rattle.phrases.specs.Masters.{words_master};
-ghost use Rattle.phrases.specs.Promises.{SameLine, TickLine, TrialLine, KeptMaster};
+ghost use Rattle.phrases.specs.Promises.{SameLine, TickLine, TrialLine};
 
 use crate::meaning::Meant;
 use digits::{END, Ident};
@@ -29,7 +28,6 @@ use text::{SPACE, Text, parts};
 mod meaning;
 mod programs;
 mod single;
-mod starts;
 mod trials;
 
 // The identification of a form, and the length of what stands before it.
@@ -139,10 +137,10 @@ fn command(text: Text, line: &[u8]) -> Text
     requested(text, silent, ident, line, meant)
 }
 
-// A line of words behind the previous master. That what is printed for a command is its very line, that a printed T line
-// asks for these very ticks and a printed D line for this very trial, stand here as promises.
-pub fn words(text: Text, previous: u8, line: &[u8]) -> Text
-    ensures value { result ≡ writes text (words_text previous line.now) }
+// A line of words. That what is printed for a command is its very line, that a printed T line asks for these very
+// ticks and a printed D line for this very trial, stand here as promises.
+pub fn words(text: Text, line: &[u8]) -> Text
+    ensures value { result ≡ writes text (words_text line.now) }
     ensures same_line { SameLine }
     ensures tick_line { TickLine }
     ensures trial_line { TrialLine }
@@ -152,7 +150,7 @@ pub fn words(text: Text, previous: u8, line: &[u8]) -> Text
         return programs::opening(text, line);
     }
     if k == places::MASTER {
-        return programs::master(text, previous, line);
+        return programs::master(text, line);
     }
     if k == places::TICKS {
         return programs::ticks(text, line);
@@ -161,22 +159,6 @@ pub fn words(text: Text, previous: u8, line: &[u8]) -> Text
         return trials::trial(text, line);
     }
     command(text, line)
-}
-
-// The master that is kept behind a line of words: what `master` has printed, that of a start whose line was printed, or
-// the previous one. Each of these stands here as a promise.
-pub fn master_after(previous: u8, line: &[u8]) -> u8
-    ensures value { result ≡ words_master previous line.now }
-    ensures kept_master { KeptMaster }
-{
-    let k = sentences::place_of(parts::part(line, SPACE, 0));
-    if k == places::MASTER {
-        return programs::printed_master(previous, line);
-    }
-    let named = ident_in(unsilenced(line));
-    let ident = named.ident;
-    let meant = meaning::meaning_of(body(line));
-    starts::meant_master(previous, ident, meant)
 }
 
 // A line that is too long: so many of its characters are looked at as it had to have.

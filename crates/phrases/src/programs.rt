@@ -15,7 +15,6 @@ ghost use Rattle.phrases.specs.Phrases.{
   tick_line_text,
   ticks_text,
 };
-ghost use Rattle.phrases.specs.Masters.{master_printed};
 
 use crate::nearest;
 use controller::LAST_WORD;
@@ -107,26 +106,16 @@ fn distances(line: &[u8]) -> [u32; 5]
     ]
 }
 
-// The picker's axis behind the previous master.
-pub(crate) fn master(text: Text, previous: u8, line: &[u8]) -> Text
-    ensures { result ≡ writes text (master_text previous line.now) }
+// The picker's axis.
+pub(crate) fn master(text: Text, line: &[u8]) -> Text
+    ensures { result ≡ writes text (master_text line.now) }
 {
     if are_distances(line) {
-        let axis = host::master::pick_master(previous, distances(line));
+        let axis = host::pick_master(distances(line));
         let word = text.characters(b"master ");
         return word.decimal(axis as u32);
     }
     nearest(text, line)
-}
-
-// That axis, which is kept, or the previous master where none is printed.
-pub(crate) fn printed_master(previous: u8, line: &[u8]) -> u8
-    ensures { result ≡ master_printed previous line.now }
-{
-    if are_distances(line) {
-        return host::master::pick_master(previous, distances(line));
-    }
-    previous
 }
 
 // A T line, or 3.

@@ -15,7 +15,6 @@ use Rattle.station.specs.Forms.{
   other,
   speed,
   move,
-  ended,
   words,
   word,
   is_number,
@@ -28,7 +27,7 @@ use Rattle.station.specs.Forms.{
   form_as,
   form_of,
 }
-use Rattle.station.specs.Spelled.{gap, Spells, spd_x, spd_y, inc_x, inc_y, lni, sst_x, sst_y, sst_both}
+use Rattle.station.specs.Spelled.{ended, gap, Spells, spd_x, spd_y, inc_x, inc_y, lni, sst_x, sst_y, sst_both}
 use Rattle.station.proofs.MarkLaws.{before_joined, Two, Three, two, three}
 use Rattle.station.proofs.FreeLaws.{number_free, distance_free, join_free}
 

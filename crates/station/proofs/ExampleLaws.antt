@@ -5,16 +5,13 @@ use Rattle.text.specs.Parts.{behind, marks, same}
 use Rattle.host.specs.Master.{master_of}
 use Rattle.station.specs.Names.{names, is_among}
 use Rattle.station.specs.Forms.{are_digits, joined, form_of}
-use Rattle.station.specs.Station.{number_of, values_in, master_in, convert_of}
+use Rattle.station.specs.Station.{number_of, values_in, convert_of}
 use Rattle.station.specs.Examples.{Values, Ranges, Forms, Listed, Answers, Examples}
 
 values : Values
 unfolding before behind marks same names is_among are_digits joined form_of number_of values_in master_of
 values = record {
   lni = refl;
-  lni_kept = refl;
-  lni_higher = refl;
-  lni_over = refl;
   lni_y = refl;
   inc_x = refl;
   inc_y = refl;
@@ -72,7 +69,7 @@ listed = record {
 }
 
 answers : Answers
-unfolding before behind marks same names is_among are_digits joined form_of number_of values_in master_in convert_of master_of
+unfolding before behind marks same names is_among are_digits joined form_of number_of values_in convert_of master_of
 answers = record { one = refl; all = refl; unknown = refl; lacked = refl; out = refl }
 
 pub examples : Examples

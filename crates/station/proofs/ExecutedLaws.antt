@@ -58,22 +58,22 @@ pub near : (z : ℤ) → is_far z ≡ false → ltb (nat_abs z) 524288 ≡ true
 near z e = let h = ltb-false 524287 (nat_abs z) e in lt-ltb (nat_abs z) 524288 (omega (arith, h))
 
 -- The start names one of the five axes.
-pub axis_picked : (p : ℕ) (x y : ℤ) → ltb (picked p x y) 5 ≡ true
-axis_picked p x y = lt-ltb (picked p x y) 5 (master_longest p (nat_abs x ∷ nat_abs y ∷ 0 ∷ 0 ∷ 0 ∷ [])).axis
+pub axis_picked : (x y : ℤ) → ltb (picked x y) 5 ≡ true
+axis_picked x y = lt-ltb (picked x y) 5 (master_longest (nat_abs x ∷ nat_abs y ∷ 0 ∷ 0 ∷ 0 ∷ [])).axis
 
 -- Each has a line, and is plain.
-pub plain_values : (p : ℕ) (x : Form) → is_out x ≡ false → are_plain (values_of p x) ≡ true
+pub plain_values : (x : Form) → is_out x ≡ false → are_plain (values_of x) ≡ true
 unfolding are_plain
-plain_values p other e = refl
-plain_values p (speed n) e =
+plain_values other e = refl
+plain_values (speed n) e =
     let h = neither (eqb n 0) (ltb 250000 n) e in
     let a = eqb-false n 0 h.0 in
     let b = ltb-false 250000 n h.1 in
     (λ i. (le-leb 1 (4 * n) (omega (arith, a)) i && le-leb (4 * n) 1000000 (omega (arith, b)) i) && true && true)
-plain_values p (move x y) e =
+plain_values (move x y) e =
     let h = neither (is_far x) (is_far y) e in
-    (λ i. (near x h.0 i && true) && ((near y h.1 i && true) && ((axis_picked p x y i && true) && true)))
-plain_values p stop e = refl
+    (λ i. (near x h.0 i && true) && ((near y h.1 i && true) && ((axis_picked x y i && true) && true)))
+plain_values stop e = refl
 
 -- ---- What they add
 
@@ -87,15 +87,15 @@ five_none : (a b t u : ℤ) → a ≡ b → t ≡ u
 five_none a b t u e f =
     +ℤ_idl _ ∙ (+ℤ_idl _ ∙ (+ℤ_idl _ ∙ (+ℤ_idl _ ∙ (+ℤ_idl (a +ℤ t) ∙ (λ i. e i +ℤ f i)))))
 
--- Whatever plan they find and whatever comes behind them adds t. Which axis is master counts for nothing.
-pub adds_named : (m : ℕ) (x : Form) (rs : List Request) (t : ℤ) (k : ℕ) → k < 5 → ((p : Plan) → total rs p k ≡ t)
-    → (p : Plan) → total (values_of m x ++ rs) p k ≡ named_by x k +ℤ t
+-- Whatever plan they find and whatever comes behind them adds t.
+pub adds_named : (x : Form) (rs : List Request) (t : ℤ) (k : ℕ) → k < 5 → ((p : Plan) → total rs p k ≡ t)
+    → (p : Plan) → total (values_of x ++ rs) p k ≡ named_by x k +ℤ t
 unfolding total
-adds_named m other rs t k l h p = h p ∙ sym (+ℤ_idl t)
-adds_named m (speed n) rs t k l h p = ap (λ (y : ℤ). pos 0 +ℤ y) (h p)
-adds_named m stop rs t k l h p = ap (λ (y : ℤ). pos 0 +ℤ y) (h p)
-adds_named m (move x y) rs t k l h p =
-    five (λ (j : ℕ). ((q : Plan) → total rs q j ≡ t) → total (values_of m (move x y) ++ rs) p j ≡ of_axis x y j +ℤ t)
+adds_named other rs t k l h p = h p ∙ sym (+ℤ_idl t)
+adds_named (speed n) rs t k l h p = ap (λ (y : ℤ). pos 0 +ℤ y) (h p)
+adds_named stop rs t k l h p = ap (λ (y : ℤ). pos 0 +ℤ y) (h p)
+adds_named (move x y) rs t k l h p =
+    five (λ (j : ℕ). ((q : Plan) → total rs q j ≡ t) → total (values_of (move x y) ++ rs) p j ≡ of_axis x y j +ℤ t)
     (λ g. five_none _ _ _ _ (directed_back x) (g _))
     (λ g. five_none _ _ _ _ (directed_back y) (g _))
     (λ g. five_none (pos 0) (pos 0) _ _ refl (g _))
@@ -106,20 +106,20 @@ adds_named m (move x y) rs t k l h p =
 -- ---- The answer
 
 -- Its first places hold the values.
-pub answered_is : (p : ℕ) (c : List ℕ) → answered p c ≡ values_in p c
+pub answered_is : (c : List ℕ) → answered c ≡ values_in c
 unfolding convert_of
-answered_is p c = take-append_seam (values_in p c) _
+answered_is c = take-append_seam (values_in c) _
 
-pub number_is : (p : ℕ) (c : List ℕ) → (convert_of p c).number ≡ number_of c
+pub number_is : (c : List ℕ) → (convert_of c).number ≡ number_of c
 unfolding convert_of
-number_is p c = refl
+number_is c = refl
 
 -- ---- A list of commands
 
--- The values of all, the master passed on.
-unfoldable all_values : ℕ → List (List ℕ) → List Request
-all_values p [] = []
-all_values p (c ∷ cs) = values_in p c ++ all_values (convert_of p c).master cs
+-- The values of all.
+unfoldable all_values : List (List ℕ) → List Request
+all_values [] = []
+all_values (c ∷ cs) = values_in c ++ all_values cs
 
 -- A command that no number turns away has the values of its form, which is in its ranges.
 pub in_range_lem : (c : List ℕ) → number_of c ≡ 0 → is_out (form_of c) ≡ false
@@ -132,9 +132,9 @@ in_range_lem c e = by_tests (is_unknown c) (is_lacked c) (is_out (form_of c)) e
     by_tests false false true f = absurd (omega (arith, f))
     by_tests false false false f = refl
 
-pub values_are : (p : ℕ) (c : List ℕ) → number_of c ≡ 0 → values_in p c ≡ values_of p (form_of c)
+pub values_are : (c : List ℕ) → number_of c ≡ 0 → values_in c ≡ values_of (form_of c)
 unfolding values_in
-values_are p c e = λ i. cond (eqb (e i) 0) (values_of p (form_of c)) []
+values_are c e = λ i. cond (eqb (e i) 0) (values_of (form_of c)) []
 
 plain_joined : (rs qs : List Request) → are_plain rs ≡ true → are_plain qs ≡ true → are_plain (rs ++ qs) ≡ true
 unfolding are_plain
@@ -144,15 +144,14 @@ plain_joined (r ∷ rs) qs e f =
     let b = both (is_plain r.command) _ a.1 in
     both_true (has_line r) _ a.0 (both_true (is_plain r.command) _ b.0 (plain_joined rs qs b.1 f))
 
-all_plain : (p : ℕ) (cs : List (List ℕ)) → are_converted p cs ≡ true → are_plain (all_values p cs) ≡ true
+all_plain : (cs : List (List ℕ)) → are_converted cs ≡ true → are_plain (all_values cs) ≡ true
 unfolding all_values are_converted
-all_plain p [] e = plain_values p other refl
-all_plain p (c ∷ cs) e =
+all_plain [] e = plain_values other refl
+all_plain (c ∷ cs) e =
     let a = both _ _ e in
-    let n = sym (number_is p c) ∙ eqb-true (convert_of p c).number 0 a.0 in
-    plain_joined (values_in p c) (all_values (convert_of p c).master cs)
-    (ap are_plain (values_are p c n) ∙ plain_values p (form_of c) (in_range_lem c n))
-    (all_plain (convert_of p c).master cs a.1)
+    let n = sym (number_is c) ∙ eqb-true (convert_of c).number 0 a.0 in
+    plain_joined (values_in c) (all_values cs)
+    (ap are_plain (values_are c n) ∙ plain_values (form_of c) (in_range_lem c n)) (all_plain cs a.1)
 
 written_joined : (rs qs : List Request) → written (rs ++ qs) ≡ written rs ++ written qs
 unfolding written
@@ -160,23 +159,21 @@ written_joined [] qs = refl
 written_joined (r ∷ rs) qs =
     ap (λ (l : List ℕ). line_of r ++ l) (written_joined rs qs) ∙ sym (append_assoc (line_of r) (written rs) (written qs))
 
-all_lines : (p : ℕ) (cs : List (List ℕ)) → lines_of p cs ≡ written (all_values p cs)
+all_lines : (cs : List (List ℕ)) → lines_of cs ≡ written (all_values cs)
 unfolding lines_of all_values written
-all_lines p [] = refl
-all_lines p (c ∷ cs) =
-    let q = (convert_of p c).master in
-    (λ i. written (answered_is p c i) ++ all_lines q cs i) ∙ sym (written_joined (values_in p c) (all_values q cs))
+all_lines [] = refl
+all_lines (c ∷ cs) =
+    (λ i. written (answered_is c i) ++ all_lines cs i) ∙ sym (written_joined (values_in c) (all_values cs))
 
-all_named : (m : ℕ) (cs : List (List ℕ)) (k : ℕ) → k < 5 → are_converted m cs ≡ true → (p : Plan)
-    → total (all_values m cs) p k ≡ named cs k
+all_named : (cs : List (List ℕ)) (k : ℕ) → k < 5 → are_converted cs ≡ true → (p : Plan)
+    → total (all_values cs) p k ≡ named cs k
 unfolding all_values are_converted named total
-all_named m [] k l e p = refl
-all_named m (c ∷ cs) k l e p =
+all_named [] k l e p = refl
+all_named (c ∷ cs) k l e p =
     let a = both _ _ e in
-    let q = (convert_of m c).master in
-    ap (λ (rs : List Request). total (rs ++ all_values q cs) p k)
-    (values_are m c (sym (number_is m c) ∙ eqb-true (convert_of m c).number 0 a.0))
-    ∙ adds_named m (form_of c) (all_values q cs) (named cs k) k l (all_named q cs k l a.1) p
+    ap (λ (rs : List Request). total (rs ++ all_values cs) p k)
+    (values_are c (sym (number_is c) ∙ eqb-true (convert_of c).number 0 a.0))
+    ∙ adds_named (form_of c) (all_values cs) (named cs k) k l (all_named cs k l a.1) p
 
 -- Where no move runs, an axis stands where it will.
 at_rest : (s : ℕ) (h : List Call) (k : ℕ) → goes_on s h ≡ false → due (state s h) k ≡ position s h k
@@ -186,9 +183,9 @@ at_rest s h k e =
     ∙ (ap (λ (z : ℤ). position s h k +ℤ z) (no_step ((state s h).move.plan.minus k)) ∙ +ℤ_idr (position s h k))
 
 pub executes : Executes
-executes s p h f cs k l x =
+executes s h f cs k l x =
     sym (at_rest s (onto f h) k x.ended)
-    ∙ (in_lines s h f (all_values p cs) k l (received_is s h ∙ x.fresh) (x.lines ∙ all_lines p cs)
-    (all_plain p cs x.converted) x.undisturbed
+    ∙ (in_lines s h f (all_values cs) k l (received_is s h ∙ x.fresh) (x.lines ∙ all_lines cs)
+    (all_plain cs x.converted) x.undisturbed
     (λ r. true_false (state s h).move.moving r ((told s h).goes ∙ x.rests))
-    ∙ (λ i. at_rest s h k x.rests i +ℤ all_named p cs k l x.converted (state s h).next i))
+    ∙ (λ i. at_rest s h k x.rests i +ℤ all_named cs k l x.converted (state s h).next i))

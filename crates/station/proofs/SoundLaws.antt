@@ -18,7 +18,6 @@ use Rattle.station.specs.Forms.{
   speed,
   move,
   stop,
-  ended,
   text_of,
   is_ended,
   words,
@@ -41,7 +40,7 @@ use Rattle.station.specs.Forms.{
   form_of,
 }
 use Rattle.station.specs.Station.{is_other}
-use Rattle.station.specs.Spelled.{Spells, spd_x, spd_y, inc_x, inc_y, lni, sst_x, sst_y, sst_both}
+use Rattle.station.specs.Spelled.{ended, Spells, spd_x, spd_y, inc_x, inc_y, lni, sst_x, sst_y, sst_both}
 use Rattle.station.specs.Held.{is_point}
 use Rattle.station.proofs.MarkLaws.{same_equal, of_two, of_three}
 use Rattle.station.proofs.PairLaws.{is_spaced, of_pair}

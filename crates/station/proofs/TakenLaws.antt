@@ -40,17 +40,17 @@ some_length a b e = by_flag (eqb a 0)
     pos_left zero v q = absurd (q refl)
     pos_left (suc u) v q = omega arith
 
-obedient : (s p : ℕ) (x : Form) → is_out x ≡ false → is_still x ≡ false → Obedient (power_on s) (values_of p x)
+obedient : (s : ℕ) (x : Form) → is_out x ≡ false → is_still x ≡ false → Obedient (power_on s) (values_of x)
 unfolding Obedient last_of
-obedient s p forms.other e q = omega arith
-obedient s p (speed n) e q =
+obedient s forms.other e q = omega arith
+obedient s (speed n) e q =
     let h = neither (eqb n 0) (ltb 250000 n) e in
     let a = eqb-false n 0 h.0 in
     let b = ltb-false 250000 n h.1 in (
       (λ i. (le-leb 1 (4 * n) (omega (arith, a)) i && le-leb (4 * n) 1000000 (omega (arith, b)) i) && true),
       (refl, (refl, omega arith)),
     )
-obedient s p (move x y) e q =
+obedient s (move x y) e q =
     let h = neither _ _ e in (
       (λ i. near x h.0 i && true),
       (
@@ -82,7 +82,7 @@ obedient s p (move x y) e q =
                                 (
                                   refl,
                                   (
-                                    (λ i. axis_picked p x y i && true),
+                                    (λ i. axis_picked x y i && true),
                                     (
                                       refl,
                                       (
@@ -107,33 +107,33 @@ obedient s p (move x y) e q =
       ),
     )
   where
-    begins : number (five_set s x y) (C.Start (picked p x y) false) ≡ 0
+    begins : number (five_set s x y) (C.Start (picked x y) false) ≡ 0
     begins =
         let h = neither _ _ e in
-        let w = master_longest p (nat_abs x ∷ nat_abs y ∷ 0 ∷ 0 ∷ 0 ∷ []) in
+        let w = master_longest (nat_abs x ∷ nat_abs y ∷ 0 ∷ 0 ∷ 0 ∷ []) in
         starts s x y (ltb-false 524287 (nat_abs x) h.0) (ltb-false 524287 (nat_abs y) h.1)
-        (some_length (nat_abs x) (nat_abs y) q) (picked p x y) w.axis w
-obedient s p stop e q = (refl, (refl, (refl, omega arith)))
+        (some_length (nat_abs x) (nat_abs y) q) (picked x y) w.axis w
+obedient s stop e q = (refl, (refl, (refl, omega arith)))
 
-runs_after : (s p : ℕ) (x : Form) → is_move x ≡ true → (last_of (power_on s) (values_of p x)).move.moving ≡ true
+runs_after : (s : ℕ) (x : Form) → is_move x ≡ true → (last_of (power_on s) (values_of x)).move.moving ≡ true
 unfolding last_of
-runs_after s p forms.other e = true_false false e refl
-runs_after s p (speed n) e = true_false false e refl
-runs_after s p (move x y) e = refl
-runs_after s p stop e = true_false false e refl
+runs_after s forms.other e = true_false false e refl
+runs_after s (speed n) e = true_false false e refl
+runs_after s (move x y) e = refl
+runs_after s stop e = true_false false e refl
 
-lines_are : (p : ℕ) (c : List ℕ) → number_of c ≡ 0 → lines_of p (c ∷ []) ≡ written (values_of p (form_of c))
+lines_are : (c : List ℕ) → number_of c ≡ 0 → lines_of (c ∷ []) ≡ written (values_of (form_of c))
 unfolding lines_of
-lines_are p c e = append-nil _ ∙ ap written (answered_is p c ∙ values_are p c e)
+lines_are c e = append-nil _ ∙ ap written (answered_is c ∙ values_are c e)
 
 pub taken : Taken
 unfolding run
-taken s p c n q =
-    let e = sym (number_is p c) ∙ n in
-    let t = all_taken s [] (values_of p (form_of c)) refl (obedient s p (form_of c) (in_range_lem c e) q) in
+taken s c n q =
+    let e = sym (number_is c) ∙ n in
+    let t = all_taken s [] (values_of (form_of c)) refl (obedient s (form_of c) (in_range_lem c e) q) in
     record {
-      taken = ap (λ (l : List ℕ). is_undisturbed s [] (lent l)) (lines_are p c e) ∙ t.undisturbed;
+      taken = ap (λ (l : List ℕ). is_undisturbed s [] (lent l)) (lines_are c e) ∙ t.undisturbed;
       runs = λ m. sym (told s _).goes
-          ∙ (ap (λ (l : List ℕ). (state s (onto (lent l) [])).move.moving) (lines_are p c e)
-          ∙ (ap (λ (a : Machine). a.move.moving) t.left ∙ runs_after s p (form_of c) m));
+          ∙ (ap (λ (l : List ℕ). (state s (onto (lent l) [])).move.moving) (lines_are c e)
+          ∙ (ap (λ (a : Machine). a.move.moving) t.left ∙ runs_after s (form_of c) m));
     }

@@ -11,40 +11,17 @@ use lib.IntN.{ℤ, nat_abs}
 use Rattle.laws.specs.Axes.{is_minus}
 use Rattle.line.specs.declared.command.Command.TheVariants as C
 use Rattle.numerals.specs.Numerals.{largest}
-use Rattle.host.specs.Master.{previous_axis}
 use Rattle.host.specs.declared.Request.{Request}
 use Rattle.station.specs.declared.Converted.{Converted}
 use Rattle.station.specs.declared.points.Distance.{Distance}
 use Rattle.station.specs.Names.{is_listed}
 use Rattle.station.specs.Forms.{Form, other, speed, move, stop, is_ours, name_of, form_of}
-use Rattle.station.specs.Station.{
-  asks,
-  values_of,
-  next_of,
-  is_other,
-  is_far,
-  is_out,
-  number_of,
-  values_in,
-  master_in,
-  convert_of,
-}
-use Rattle.station.specs.Held.{
-  held,
-  held_form,
-  answer,
-  keeping,
-  held_speed,
-  held_master,
-  moved_values,
-  held_move,
-  held_answer,
-}
+use Rattle.station.specs.Station.{asks, values_of, is_other, is_far, is_out, number_of, values_in, convert_of}
+use Rattle.station.specs.Held.{held, held_form, answer, held_speed, moved_values, held_move, held_answer}
 
 -- The answer for what one of the four says.
-abbrev answer_in : ℕ → Form → Converted
-answer_in p f =
-    cond (is_other f) (keeping p 27 []) (cond (is_out f) (keeping p 29 []) (answer (next_of p f) 0 (values_of p f)))
+abbrev answer_in : Form → Converted
+answer_in f = cond (is_other f) (answer 27 []) (cond (is_out f) (answer 29 []) (answer 0 (values_of f)))
 
 -- A number n and what is held of it, v: up to the most that is in range they are equal, and beyond it both are.
 record Kept (most n v : ℕ) : Type 0 where
@@ -53,11 +30,11 @@ record Kept (most n v : ℕ) : Type 0 where
 
 -- ---- A speed
 
-held_speed_lem : (p n v : ℕ) → Kept 250000 n v → held_speed p v ≡ answer_in p (speed n)
-held_speed_lem p n v k = when (eqb n 0) (ltb 250000 n) refl refl
+held_speed_lem : (n v : ℕ) → Kept 250000 n v → held_speed v ≡ answer_in (speed n)
+held_speed_lem n v k = when (eqb n 0) (ltb 250000 n) refl refl
   where
     when : (s t : Bool) → eqb n 0 ≡ s → ltb 250000 n ≡ t
-        → held_speed p v ≡ cond (s || t) (keeping p 29 []) (keeping p 0 (asks (C.Set 8 (4 * n)) ∷ []))
+        → held_speed v ≡ cond (s || t) (answer 29 []) (answer 0 (asks (C.Set 8 (4 * n)) ∷ []))
     when true t e f =
         let z : n ≡ 0 = eqb-true n 0 e in
         let y : v ≡ n = k.within (omega arith) in
@@ -69,7 +46,7 @@ held_speed_lem p n v k = when (eqb n 0) (ltb 250000 n) refl refl
 
 -- ---- A move
 
-module _ (r : ℕ) (p q : Bool) (a b u v : ℕ) (k : Kept 524287 a u) (m : Kept 524287 b v) where
+module _ (p q : Bool) (a b u v : ℕ) (k : Kept 524287 a u) (m : Kept 524287 b v) where
   -- Distances of these lengths and signs.
   abbrev first : ℕ → Distance
   first n = record { minus = p; size = n }
@@ -78,9 +55,7 @@ module _ (r : ℕ) (p q : Bool) (a b u v : ℕ) (k : Kept 524287 a u) (m : Kept 
   second n = record { minus = q; size = n }
 
   moves : (s t : Bool) → ltb 524287 a ≡ s → ltb 524287 b ≡ t
-      → held_move r (first u) (second v)
-      ≡ cond (s || t) (keeping r 29 [])
-      (answer (held_master r (first a) (second b)) 0 (moved_values r (first a) (second b)))
+      → held_move (first u) (second v) ≡ cond (s || t) (answer 29 []) (answer 0 (moved_values (first a) (second b)))
   moves true t e f = rw (lt-ltb 524287 u (k.over (ltb-true 524287 a e)))
   moves false true e f =
       rw (k.within (ltb-false 524287 a e), e, lt-ltb 524287 v (m.over (ltb-true 524287 b f)))
@@ -89,17 +64,17 @@ module _ (r : ℕ) (p q : Bool) (a b u v : ℕ) (k : Kept 524287 a u) (m : Kept 
 kept : (n : ℕ) → Kept 524287 n (min largest n)
 kept n = record { within = λ h. omega arith; over = λ h. omega arith }
 
-held_move_lem : (p : ℕ) (x y : ℤ) → held_move p (held x) (held y) ≡ answer_in p (move x y)
-held_move_lem p x y =
-    moves p (is_minus x) (is_minus y) (nat_abs x) (nat_abs y) (min largest (nat_abs x)) (min largest (nat_abs y))
+held_move_lem : (x y : ℤ) → held_move (held x) (held y) ≡ answer_in (move x y)
+held_move_lem x y =
+    moves (is_minus x) (is_minus y) (nat_abs x) (nat_abs y) (min largest (nat_abs x)) (min largest (nat_abs y))
     (kept (nat_abs x)) (kept (nat_abs y)) (is_far x) (is_far y) refl refl
 
-held_answer_lem : (p : ℕ) (f : Form) → held_answer p (held_form f) ≡ answer_in p f
-held_answer_lem p other = refl
-held_answer_lem p (speed n) =
-    held_speed_lem p n (min largest n) (record { within = λ h. omega arith; over = λ h. omega arith })
-held_answer_lem p (move x y) = held_move_lem p x y
-held_answer_lem p stop = refl
+held_answer_lem : (f : Form) → held_answer (held_form f) ≡ answer_in f
+held_answer_lem other = refl
+held_answer_lem (speed n) =
+    held_speed_lem n (min largest n) (record { within = λ h. omega arith; over = λ h. omega arith })
+held_answer_lem (move x y) = held_move_lem x y
+held_answer_lem stop = refl
 
 -- ---- The answer
 
@@ -107,32 +82,28 @@ held_answer_lem p stop = refl
 abbrev number_by : Bool → Bool → Form → ℕ
 number_by a b f = cond (not a || (b && is_other f)) 27 (cond (not b) 28 (cond (is_out f) 29 0))
 
--- By the number, the values and the next master where it is 0.
-abbrev answer_with : ℕ → ℕ → ℕ → List Request → Converted
-answer_with p n k rs = answer (cond (eqb n 0) k (previous_axis p)) n (cond (eqb n 0) rs [])
+abbrev answer_by : Bool → Bool → Form → Converted
+answer_by a b f = answer (number_by a b f) (cond (eqb (number_by a b f) 0) (values_of f) [])
 
-abbrev answer_by : ℕ → Bool → Bool → Form → Converted
-answer_by p a b f = answer_with p (number_by a b f) (next_of p f) (values_of p f)
-
-answer_in_lem : (p : ℕ) (f : Form) → answer_in p f ≡ answer_by p true true f
-answer_in_lem p f = when (is_other f) (is_out f) (next_of p f) (values_of p f)
+answer_in_lem : (f : Form) → answer_in f ≡ answer_by true true f
+answer_in_lem f = when (is_other f) (is_out f) (values_of f)
   where
-    when : (o t : Bool) (k : ℕ) (rs : List Request)
-        → cond o (keeping p 27 []) (cond t (keeping p 29 []) (answer k 0 rs))
-        ≡ answer_with p (cond o 27 (cond t 29 0)) k rs
-    when true t k rs = refl
-    when false true k rs = refl
-    when false false k rs = refl
+    when : (o t : Bool) (rs : List Request)
+        → cond o (answer 27 []) (cond t (answer 29 []) (answer 0 rs))
+        ≡ answer (cond o 27 (cond t 29 0)) (cond (eqb (cond o 27 (cond t 29 0)) 0) rs [])
+    when true t rs = refl
+    when false true rs = refl
+    when false false rs = refl
 
-pub converted : (p : ℕ) (l : List ℕ)
+pub converted : (l : List ℕ)
     → cond (is_listed (name_of l))
-    (cond (is_ours (name_of l)) (held_answer p (held_form (form_of l))) (keeping p 28 [])) (keeping p 27 [])
-    ≡ convert_of p l
-unfolding convert_of number_of values_in master_in
-converted p l = when (is_listed (name_of l)) (is_ours (name_of l)) (form_of l)
+    (cond (is_ours (name_of l)) (held_answer (held_form (form_of l))) (answer 28 [])) (answer 27 [])
+    ≡ convert_of l
+unfolding convert_of number_of values_in
+converted l = when (is_listed (name_of l)) (is_ours (name_of l)) (form_of l)
   where
     when : (a b : Bool) (f : Form)
-        → cond a (cond b (held_answer p (held_form f)) (keeping p 28 [])) (keeping p 27 []) ≡ answer_by p a b f
+        → cond a (cond b (held_answer (held_form f)) (answer 28 [])) (answer 27 []) ≡ answer_by a b f
     when false b f = refl
     when true false f = refl
-    when true true f = held_answer_lem p f ∙ answer_in_lem p f
+    when true true f = held_answer_lem f ∙ answer_in_lem f

@@ -29,17 +29,17 @@ lined_plain (r ∷ rs) e =
     let b = both (is_plain r.command) (are_plain rs) a.1 in
     (λ i. a.0 i && lined_plain rs b.1 i)
 
-values_most : (p : ℕ) (f : Form) → length (values_of p f) ≤ 6
-values_most p other = omega arith
-values_most p (speed n) = omega arith
-values_most p (move x y) = omega arith
-values_most p stop = omega arith
+values_most : (f : Form) → length (values_of f) ≤ 6
+values_most other = omega arith
+values_most (speed n) = omega arith
+values_most (move x y) = omega arith
+values_most stop = omega arith
 
-values_some : (p : ℕ) (f : Form) → is_other f ≡ false → 1 ≤ length (values_of p f)
-values_some p other e = let z : ◌≡◌ {A = ℕ} 0 1 = cc in absurd (omega arith)
-values_some p (speed n) e = omega arith
-values_some p (move x y) e = omega arith
-values_some p stop e = omega arith
+values_some : (f : Form) → is_other f ≡ false → 1 ≤ length (values_of f)
+values_some other e = let z : ◌≡◌ {A = ℕ} 0 1 = cc in absurd (omega arith)
+values_some (speed n) e = omega arith
+values_some (move x y) e = omega arith
+values_some stop e = omega arith
 
 -- ---- Of a command
 
@@ -75,9 +75,9 @@ formed false b f e g = absurd (false≢true (sym e))
 
 pub writable : Writable
 unfolding number_of values_in
-writable p l =
+writable l =
     let f = form_of l in
-    let w = by_tests (is_unknown l) (is_lacked l) (is_out f) (values_of p f)
-    (λ e g. values_some p f (formed (is_listed (name_of l)) (is_ours (name_of l)) f e g)) (values_most p f)
-    (λ e. lined_plain (values_of p f) (plain_values p f e)) in
+    let w = by_tests (is_unknown l) (is_lacked l) (is_out f) (values_of f)
+    (λ e g. values_some f (formed (is_listed (name_of l)) (is_ours (name_of l)) f e g)) (values_most f)
+    (λ e. lined_plain (values_of f) (plain_values f e)) in
     record { number = w.number; some = w.some; most = w.most; lined = w.lined }

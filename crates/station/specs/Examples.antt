@@ -1,5 +1,5 @@
--- Commands and what comes of them behind a previous master, computed: they pin each choice of the converter (paper 02,
--- 8/14 and 9/14; source document 001). `convert` promises `Examples`.
+-- Commands and what comes of them, computed: they pin each choice of the converter (paper 02, 8/14; source document
+-- 001). `convert` promises `Examples`.
 use Rattle.std.specs.Prelude.{ℕ, Bool, true, false, List, [], ◌∷◌, ◌++◌, ◌≡◌, length}
 use Prim.Native.String.{String}
 use Rattle.digits.specs.declared.Ident.TheVariants.{Absent}
@@ -10,10 +10,13 @@ use Rattle.machine.specs.Calls.{chars}
 use Rattle.host.specs.declared.Request.{Request}
 use Rattle.station.specs.declared.Converted.{Converted}
 use Rattle.station.specs.Names.{names}
-use Rattle.station.specs.Forms.{sent}
 use Rattle.station.specs.Station.{number_of, values_in, convert_of}
 
 -- ---- How the rows below are written
+
+-- A command with its [NULL].
+abbrev pub sent : String → List ℕ
+sent s = chars s ++ (0 ∷ [])
 
 -- A command value that asks for a reply and carries no identification.
 abbrev pub plain : Command → Request
@@ -30,40 +33,35 @@ six p x q y master =
     ∷ plain (Start master false)
     ∷ []
 
--- A number and no command value, and the next master.
-abbrev pub none : ℕ → ℕ → Converted
-none n k =
+-- A number and no command value.
+abbrev pub none : ℕ → Converted
+none n =
     record {
       number = n;
       count = 0;
       requests =
           plain (Read Status) ∷ plain (Read Status) ∷ plain (Read Status)
           ∷ plain (Read Status) ∷ plain (Read Status) ∷ plain (Read Status) ∷ [];
-      master = k;
     }
 
 -- ---- Command values
 
 pub record Values : Type 0 where
-  -- the document's own example, X minus and Y plus, of equal lengths: the previous master stays
-  pub lni : values_in 0 (sent "LNI X -20000, Y 20000") ≡ six true 20000 false 20000 0
-  pub lni_kept : values_in 1 (sent "LNI X -20000, Y 20000") ≡ six true 20000 false 20000 1
-  -- where it is neither of them the higher axis; one over 4 counts as 0
-  pub lni_higher : values_in 4 (sent "LNI X 5, Y -5") ≡ six false 5 true 5 1
-  pub lni_over : values_in 5 (sent "LNI X 5, Y -5") ≡ six false 5 true 5 0
-  -- no space behind the comma; Y is the longer, whatever was before
-  pub lni_y : values_in 0 (sent "LNI X 3,Y 7") ≡ six false 3 false 7 1
-  pub inc_x : values_in 1 (sent "INC X 5") ≡ six false 5 false 0 0
-  pub inc_y : values_in 0 (sent "INC Y 5") ≡ six false 0 false 5 1
-  -- 0 is plus, and a move by 0 has the previous master
-  pub inc_zero : values_in 4 (sent "INC X 0") ≡ six false 0 false 0 4
-  pub inc_minus_zero : values_in 255 (sent "INC X -0") ≡ six false 0 false 0 0
-  pub spd_x : values_in 0 (sent "SPD X 250000") ≡ plain (Set 8 1000000) ∷ []
-  pub spd_y : values_in 0 (sent "SPD Y 1") ≡ plain (Set 8 4) ∷ []
-  pub sst_x : values_in 0 (sent "SST X") ≡ plain (Order 9) ∷ []
-  pub sst_y : values_in 0 (sent "SST Y") ≡ plain (Order 9) ∷ []
-  pub sst_both : values_in 0 (sent "SST X,Y") ≡ plain (Order 9) ∷ []
-  pub sst_spaced : values_in 0 (sent "SST X, Y") ≡ plain (Order 9) ∷ []
+  -- the document's own example, X minus and Y plus, of equal lengths: the lower axis is master
+  pub lni : values_in (sent "LNI X -20000, Y 20000") ≡ six true 20000 false 20000 0
+  -- no space behind the comma; Y is the longer
+  pub lni_y : values_in (sent "LNI X 3,Y 7") ≡ six false 3 false 7 1
+  pub inc_x : values_in (sent "INC X 5") ≡ six false 5 false 0 0
+  pub inc_y : values_in (sent "INC Y 5") ≡ six false 0 false 5 1
+  -- 0 is plus
+  pub inc_zero : values_in (sent "INC X 0") ≡ six false 0 false 0 0
+  pub inc_minus_zero : values_in (sent "INC X -0") ≡ six false 0 false 0 0
+  pub spd_x : values_in (sent "SPD X 250000") ≡ plain (Set 8 1000000) ∷ []
+  pub spd_y : values_in (sent "SPD Y 1") ≡ plain (Set 8 4) ∷ []
+  pub sst_x : values_in (sent "SST X") ≡ plain (Order 9) ∷ []
+  pub sst_y : values_in (sent "SST Y") ≡ plain (Order 9) ∷ []
+  pub sst_both : values_in (sent "SST X,Y") ≡ plain (Order 9) ∷ []
+  pub sst_spaced : values_in (sent "SST X, Y") ≡ plain (Order 9) ∷ []
 
 -- ---- Numbers
 
@@ -105,22 +103,21 @@ pub record Listed : Type 0 where
   pub lacked_unended : number_of (chars "ABS") ≡ 28
   pub reset : number_of (sent "RST") ≡ 28
 
--- ---- Whole answers: what the unused places hold, and the next master
+-- ---- Whole answers: what the unused places hold
 
 pub record Answers : Type 0 where
-  pub one : convert_of 2 (sent "SPD X 250000")
+  pub one : convert_of (sent "SPD X 250000")
       ≡ record {
         number = 0;
         count = 1;
         requests =
             plain (Set 8 1000000) ∷ plain (Read Status) ∷ plain (Read Status)
             ∷ plain (Read Status) ∷ plain (Read Status) ∷ plain (Read Status) ∷ [];
-        master = 2;
       }
-  pub all : convert_of 3 (sent "INC Y -1") ≡ record { number = 0; count = 6; requests = six false 0 true 1 1; master = 1 }
-  pub unknown : convert_of 1 (sent "EEV") ≡ none 27 1
-  pub lacked : convert_of 4 (sent "HOM X") ≡ none 28 4
-  pub out : convert_of 9 (sent "SPD Y 0") ≡ none 29 0
+  pub all : convert_of (sent "INC Y -1") ≡ record { number = 0; count = 6; requests = six false 0 true 1 1 }
+  pub unknown : convert_of (sent "EEV") ≡ none 27
+  pub lacked : convert_of (sent "HOM X") ≡ none 28
+  pub out : convert_of (sent "SPD Y 0") ≡ none 29
 
 pub record Examples : Type 0 where
   pub values : Values

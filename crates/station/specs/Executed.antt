@@ -32,22 +32,21 @@ named (c ∷ cs) k = named_by (form_of c) k +ℤ named cs k
 
 -- ---- The lines of their values
 
--- Each command is converted behind the previous master p, and what the answer tells is passed on to the next (9/14).
-unfoldable pub are_converted : ℕ → List (List ℕ) → Bool
-are_converted p [] = true
-are_converted p (c ∷ cs) = eqb (convert_of p c).number 0 && are_converted (convert_of p c).master cs
+unfoldable pub are_converted : List (List ℕ) → Bool
+are_converted [] = true
+are_converted (c ∷ cs) = eqb (convert_of c).number 0 && are_converted cs
 
 -- What the converter answers: the values of its first places, as many as it counts.
-abbrev pub answered : ℕ → List ℕ → List Request
-answered p c = take (convert_of p c).count (convert_of p c).requests
+abbrev pub answered : List ℕ → List Request
+answered c = take (convert_of c).count (convert_of c).requests
 
 unfoldable pub written : List Request → List ℕ
 written [] = []
 written (r ∷ rs) = line_of r ++ written rs
 
-unfoldable pub lines_of : ℕ → List (List ℕ) → List ℕ
-lines_of p [] = []
-lines_of p (c ∷ cs) = written (answered p c) ++ lines_of (convert_of p c).master cs
+unfoldable pub lines_of : List (List ℕ) → List ℕ
+lines_of [] = []
+lines_of (c ∷ cs) = written (answered c) ++ lines_of cs
 
 -- ---- Calls in order of time
 
@@ -82,14 +81,13 @@ is_undisturbed s h (x ∷ f) =
 
 -- ---- The theorem
 
--- A controller after any calls h, with no half-received line and no move that runs; any previous master p and any
--- commands that are converted behind it; any calls f behind h whose bytes are those of the commands' lines, with any
--- ticks before, between and behind them.
-pub record Executed (s p : ℕ) (h f : List Call) (cs : List (List ℕ)) : Type 0 where
+-- A controller after any calls h, with no half-received line and no move that runs; any commands that are converted;
+-- any calls f behind h whose bytes are those of the commands' lines, with any ticks before, between and behind them.
+pub record Executed (s : ℕ) (h f : List Call) (cs : List (List ℕ)) : Type 0 where
   pub fresh : received h ≡ []
   pub rests : goes_on s h ≡ false
-  pub converted : are_converted p cs ≡ true
-  pub lines : bytes_in f ≡ lines_of p cs
+  pub converted : are_converted cs ≡ true
+  pub lines : bytes_in f ≡ lines_of cs
   pub undisturbed : is_undisturbed s h f ≡ true
   -- the last move has run to its end, as all before it: while a move runs a distance line and a start are turned away
   pub ended : goes_on s (onto f h) ≡ false
@@ -97,5 +95,5 @@ pub record Executed (s p : ℕ) (h f : List Call) (cs : List (List ℕ)) : Type 
 -- Each position changes by exactly the sum of the distances named for its axis.
 abbrev pub Executes : Type 0
 Executes =
-    (s p : ℕ) (h f : List Call) (cs : List (List ℕ)) (k : ℕ) → k < 5 → Executed s p h f cs
+    (s : ℕ) (h f : List Call) (cs : List (List ℕ)) (k : ℕ) → k < 5 → Executed s h f cs
     → position s (onto f h) k ≡ position s h k +ℤ named cs k

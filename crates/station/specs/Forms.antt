@@ -1,7 +1,6 @@
 -- What a command of the MD5230D says (source document 001, chapters 2, 3.2.3, 3.2.10, 3.3.1, 3.4.1), for the four of
 -- them that we convert. Its characters are followed by [NULL], the byte 00; △ is a space (32).
-use Rattle.std.specs.Prelude.{ℕ, ◌+◌, ◌-◌, ◌*◌, Bool, true, cond, not, ◌&&◌, ◌||◌, List, [], ◌∷◌, ◌++◌, eqb, ℤ, pos, length, get_or, drop}
-use Prim.Native.String.{String}
+use Rattle.std.specs.Prelude.{ℕ, ◌+◌, ◌-◌, ◌*◌, Bool, true, cond, not, ◌&&◌, ◌||◌, List, [], ◌∷◌, eqb, ℤ, pos, length, get_or, drop}
 use Rattle.laws.specs.Axes.{directed}
 use Rattle.line.specs.Ranges.{is_within}
 use Rattle.machine.specs.Calls.{chars}
@@ -16,13 +15,6 @@ text_of l = part 0 0 l
 -- 00 is the last byte and the only one.
 abbrev pub is_ended : List ℕ → Bool
 is_ended l = eqb (parts 0 l) 2 && same (part 0 1 l) []
-
--- A text and its [NULL].
-abbrev pub ended : List ℕ → List ℕ
-ended t = t ++ (0 ∷ [])
-
-abbrev pub sent : String → List ℕ
-sent s = ended (chars s)
 
 -- The words of a text: what stands between spaces.
 abbrev pub words : List ℕ → ℕ

@@ -9,7 +9,7 @@ use Rattle.numerals.specs.declared.Spelled.{Spelled}
 use Rattle.numerals.specs.declared.Spelled.TheVariants as S
 use Rattle.numerals.specs.declared.Signed.{Signed}
 use Rattle.numerals.specs.declared.Signed.TheVariants as Z
-use Rattle.host.specs.Master.{previous_axis, master_of}
+use Rattle.host.specs.Master.{master_of}
 use Rattle.host.specs.declared.Request.{Request}
 use Rattle.station.specs.declared.Converted.{Converted}
 use Rattle.station.specs.declared.points.Distance.{Distance}
@@ -64,45 +64,38 @@ both_of (P.At x) (P.At y) = F.Move x y
 
 -- ---- What is answered
 
--- The next master, a number and command values.
-abbrev pub answer : ℕ → ℕ → List Request → Converted
-answer k number rs = record { number = number; count = length rs; requests = places rs; master = k }
+-- A number and command values.
+abbrev pub answer : ℕ → List Request → Converted
+answer number rs = record { number = number; count = length rs; requests = places rs }
 
--- The previous master p is kept.
-abbrev pub keeping : ℕ → ℕ → List Request → Converted
-keeping p number rs = answer (previous_axis p) number rs
-
-abbrev pub held_speed : ℕ → ℕ → Converted
-held_speed p n =
-    cond (eqb n 0) (keeping p 29 [])
-    (cond (ltb 250000 n) (keeping p 29 [])
-    (keeping p 0 (asks (C.Set 8 (4 * n)) ∷ [])))
+abbrev pub held_speed : ℕ → Converted
+held_speed n =
+    cond (eqb n 0) (answer 29 [])
+    (cond (ltb 250000 n) (answer 29 [])
+    (answer 0 (asks (C.Set 8 (4 * n)) ∷ [])))
 
 abbrev pub held_distance : ℕ → Distance → Request
 held_distance k d = asks (C.Distance k d.minus d.size)
 
-abbrev pub held_master : ℕ → Distance → Distance → ℕ
-held_master p x y = master_of p (x.size ∷ y.size ∷ 0 ∷ 0 ∷ 0 ∷ [])
-
-abbrev pub moved_values : ℕ → Distance → Distance → List Request
-moved_values p x y =
+abbrev pub moved_values : Distance → Distance → List Request
+moved_values x y =
     held_distance 0 x
     ∷ held_distance 1 y
     ∷ held_distance 2 still
     ∷ held_distance 3 still
     ∷ held_distance 4 still
-    ∷ asks (C.Start (held_master p x y) false)
+    ∷ asks (C.Start (master_of (x.size ∷ y.size ∷ 0 ∷ 0 ∷ 0 ∷ [])) false)
     ∷ []
 
-abbrev pub held_move : ℕ → Distance → Distance → Converted
-held_move p x y =
-    cond (ltb 524287 x.size) (keeping p 29 [])
-    (cond (ltb 524287 y.size) (keeping p 29 [])
-    (answer (held_master p x y) 0 (moved_values p x y)))
+abbrev pub held_move : Distance → Distance → Converted
+held_move x y =
+    cond (ltb 524287 x.size) (answer 29 [])
+    (cond (ltb 524287 y.size) (answer 29 [])
+    (answer 0 (moved_values x y)))
 
 -- What one of the four says.
-abbrev pub held_answer : ℕ → D.Form → Converted
-held_answer p F.Other = keeping p 27 []
-held_answer p (F.Speed n) = held_speed p n
-held_answer p (F.Move x y) = held_move p x y
-held_answer p F.Stop = keeping p 0 (asks (C.Order 9) ∷ [])
+abbrev pub held_answer : D.Form → Converted
+held_answer F.Other = answer 27 []
+held_answer (F.Speed n) = held_speed n
+held_answer (F.Move x y) = held_move x y
+held_answer F.Stop = answer 0 (asks (C.Order 9) ∷ [])

@@ -1,15 +1,14 @@
 -- What every answer of the converter holds (paper 02, 8/14): "The answer is up to six command values for the writer, in
 -- order: for a move the distances of axes 0 to 4 (a 0 as plus), then the plain start. Here … each asks for a reply and
--- carries no identification." And which master the answer passes on (paper 02, 9/14). `convert` promises `Places`. It is
--- said of the whole answer, for every previous master and byte slice.
-use Rattle.std.specs.Prelude.{ℕ, ◌*◌, ◌≤◌, ◌<◌, Bool, true, false, not, ◌&&◌, ◌||◌, List, [], ◌∷◌, map, ◌≡◌, eqb, ℤ, length, take}
+-- carries no identification." `convert` promises `Places`. It is said of the whole answer, for every byte slice.
+use Rattle.std.specs.Prelude.{ℕ, ◌*◌, ◌<◌, Bool, true, false, not, ◌&&◌, ◌||◌, List, [], ◌∷◌, map, ◌≡◌, eqb, length, take}
 use Rattle.line.specs.declared.command.Command.{Command}
 use Rattle.line.specs.declared.command.Command.TheVariants as C
 use Rattle.machine.specs.Ramp.{full}
 use Rattle.host.specs.Writer.{is_absent}
-use Rattle.host.specs.Master.{Picked, Counts}
+use Rattle.host.specs.Master.{Longest}
 use Rattle.host.specs.declared.Request.{Request}
-use Rattle.station.specs.Forms.{speed, move, stop, form_of}
+use Rattle.station.specs.Forms.{speed, stop, form_of}
 use Rattle.station.specs.Station.{convert_of}
 
 -- ---- One command value
@@ -110,28 +109,22 @@ pub record Pacing (n : ℕ) (rs : List Request) : Type 0 where
 
 -- ---- Every answer
 
--- A move's values behind the previous master p, and the next master.
-pub record Moving (p : ℕ) (rs : List Request) (next : ℕ) : Type 0 where
-  -- the start names the master that is passed on,
-  pub values : are_move next rs ≡ true
-  -- which is the picker's: the controller's 14 never turns such a start away, and 15 only where both distances are 0
-  pub picked : Picked p (lengths rs) next
+pub record Moving (rs : List Request) : Type 0 where
+  pub master : ℕ
+  pub values : are_move master rs ≡ true
+  -- no axis is longer: the controller's 14 never turns such a start away, and 15 only where both distances are 0
+  pub longest : Longest (lengths rs) master
 
-pub record PlacesOf (p : ℕ) (l : List ℕ) : Type 0 where
-  pub six : length (convert_of p l).requests ≡ 6
+pub record PlacesOf (l : List ℕ) : Type 0 where
+  pub six : length (convert_of l).requests ≡ 6
   -- a number alone, or one value, or a move's six
-  pub refused : ((convert_of p l).number ≡ 0 → ⊥) → (convert_of p l).count ≡ 0
-  pub several : 1 < (convert_of p l).count
-      → ((convert_of p l).count ≡ 6) × Moving p (convert_of p l).requests (convert_of p l).master
-  pub moves : (x y : ℤ) → form_of l ≡ move x y → (convert_of p l).number ≡ 0
-      → ((convert_of p l).count ≡ 6) × Moving p (convert_of p l).requests (convert_of p l).master
-  pub speeds : (n : ℕ) → form_of l ≡ speed n → (convert_of p l).number ≡ 0
-      → ((convert_of p l).count ≡ 1) × Pacing n (convert_of p l).requests
-  pub stops : form_of l ≡ stop → (convert_of p l).number ≡ 0
-      → ((convert_of p l).count ≡ 1) × (is_first is_stop (convert_of p l).requests ≡ true)
-  pub fit : are_fit (convert_of p l).requests ≡ true
-  -- what is no move keeps the previous master
-  pub kept : (convert_of p l).count ≤ 1 → Counts p (convert_of p l).master
+  pub refused : ((convert_of l).number ≡ 0 → ⊥) → (convert_of l).count ≡ 0
+  pub several : 1 < (convert_of l).count → ((convert_of l).count ≡ 6) × Moving (convert_of l).requests
+  pub speeds : (n : ℕ) → form_of l ≡ speed n → (convert_of l).number ≡ 0
+      → ((convert_of l).count ≡ 1) × Pacing n (convert_of l).requests
+  pub stops : form_of l ≡ stop → (convert_of l).number ≡ 0
+      → ((convert_of l).count ≡ 1) × (is_first is_stop (convert_of l).requests ≡ true)
+  pub fit : are_fit (convert_of l).requests ≡ true
 
 abbrev pub Places : Type 0
-Places = (p : ℕ) (l : List ℕ) → PlacesOf p l
+Places = (l : List ℕ) → PlacesOf l

@@ -9,7 +9,6 @@ use Rattle.station.specs.Forms.{
   speed,
   move,
   stop,
-  ended,
   is_number,
   number_of,
   is_distance,
@@ -17,6 +16,10 @@ use Rattle.station.specs.Forms.{
   form_of,
 }
 use Rattle.station.specs.Station.{is_other}
+
+-- A text and its [NULL].
+abbrev pub ended : List ℕ → List ℕ
+ended t = t ++ (0 ∷ [])
 
 -- A space behind a comma, or none: the document prints both.
 abbrev pub gap : Bool → List ℕ

@@ -1,7 +1,7 @@
 -- The premises of `Executes` can be met for every command: a controller fresh from power-on, with any switch, takes
--- each line of a converted command, whatever the previous master, but for the start of a move by 0, and then the move
--- runs. So the master is never shorter than an axis (14), its distance is not 0 (15), and each value is in its range
--- (10). `convert` promises `Taken`.
+-- each line of a converted command, but for the start of a move by 0, and then the move runs. So the master is never
+-- shorter than an axis (14), its distance is not 0 (15), and each value is in its range (10). `convert` promises
+-- `Taken`.
 use Rattle.std.specs.Prelude.{ℕ, Bool, true, false, ◌&&◌, List, [], ◌∷◌, ◌≡◌, eqb, nat_abs}
 use Rattle.machine.specs.Calls.{Call, byte, buffer}
 use Rattle.machine.specs.List.{goes_on}
@@ -27,9 +27,9 @@ is_still (speed n) = false
 is_still (move x y) = eqb (nat_abs x) 0 && eqb (nat_abs y) 0
 is_still stop = false
 
-pub record TakenBy (s p : ℕ) (c : List ℕ) : Type 0 where
-  pub taken : is_undisturbed s [] (lent (lines_of p (c ∷ []))) ≡ true
-  pub runs : is_move (form_of c) ≡ true → goes_on s (onto (lent (lines_of p (c ∷ []))) []) ≡ true
+pub record TakenBy (s : ℕ) (c : List ℕ) : Type 0 where
+  pub taken : is_undisturbed s [] (lent (lines_of (c ∷ []))) ≡ true
+  pub runs : is_move (form_of c) ≡ true → goes_on s (onto (lent (lines_of (c ∷ []))) []) ≡ true
 
 abbrev pub Taken : Type 0
-Taken = (s p : ℕ) (c : List ℕ) → (convert_of p c).number ≡ 0 → is_still (form_of c) ≡ false → TakenBy s p c
+Taken = (s : ℕ) (c : List ℕ) → (convert_of c).number ≡ 0 → is_still (form_of c) ≡ false → TakenBy s c

@@ -10,15 +10,15 @@ unfoldable pub are_lined : List Request → Bool
 are_lined [] = true
 are_lined (r ∷ rs) = has_line r && are_lined rs
 
--- Of the command l behind the previous master p.
-pub record Lined (p : ℕ) (l : List ℕ) : Type 0 where
+-- Of the command l.
+pub record Lined (l : List ℕ) : Type 0 where
   -- 0, or 27 to 29
   pub number : number_of l ≤ 29
   -- a command that no number turns away has a value
-  pub some : number_of l ≡ 0 → 1 ≤ length (values_in p l)
-  pub most : length (values_in p l) ≤ 6
-  pub lined : are_lined (values_in p l) ≡ true
+  pub some : number_of l ≡ 0 → 1 ≤ length (values_in l)
+  pub most : length (values_in l) ≤ 6
+  pub lined : are_lined (values_in l) ≡ true
 
--- Of every previous master and byte slice.
+-- Of every byte slice.
 abbrev pub Writable : Type 0
-Writable = (p : ℕ) (l : List ℕ) → Lined p l
+Writable = (l : List ℕ) → Lined l

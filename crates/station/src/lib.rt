@@ -1,5 +1,4 @@
-// The converter (paper 02, 8/14): a command of an MD5230D station as command values for the writer. The previous master
-// goes in and the next one comes out (paper 02, 9/14).
+// The converter (paper 02, 8/14): a command of an MD5230D station as command values for the writer.
 // Every public function is total: it has no premise and states its result for every input. Assumes nothing.
 ghost use Rattle.std.specs.Prelude.{◌≡◌};
 ghost use Rattle.station.specs.Station.{convert_of};
@@ -26,21 +25,20 @@ pub(crate) const LACKED: u8 = 28;
 pub(crate) const OUT_OF_RANGE: u8 = 29;
 
 // What comes of a command: a number that turns it away, or 0; how many command values there are; they come first of the
-// six, in order; the master to pass on with the next command.
+// six, in order.
 #[derive(Drop)]
 pub struct Converted {
     pub number: u8,
     pub count: usize,
     pub requests: [Request; 6],
-    pub master: u8,
 }
 
-// The command values of a command behind the previous master, or the first of 27, 28 and 29 that applies. Promises: a
-// command says what the format lines of source document 001 spell, with examples; the writer has a line for each value;
-// what each place holds, and which master is passed on; and that the lines, executed, move exactly the distances named,
-// with runs that do, and that a fresh controller takes the lines of each command.
-pub fn convert(previous: u8, command: &[u8]) -> Converted
-    ensures value { result ≡ convert_of previous command.now }
+// The command values of a command, or the first of 27, 28 and 29 that applies. Promises: a command says what the format
+// lines of source document 001 spell, with examples; the writer has a line for each value; what each place holds; and
+// that the lines, executed, move exactly the distances named, with runs that do, and that a fresh controller takes the
+// lines of each command.
+pub fn convert(command: &[u8]) -> Converted
+    ensures value { result ≡ convert_of command.now }
     ensures spelled { Spelled }
     ensures examples { Examples }
     ensures writable { Writable }
@@ -51,10 +49,10 @@ pub fn convert(previous: u8, command: &[u8]) -> Converted
 {
     let name = names::name_of(command);
     if !names::is_listed(name) {
-        return values::refused(previous, UNKNOWN);
+        return values::refused(UNKNOWN);
     }
     if !names::is_ours(name) {
-        return values::refused(previous, LACKED);
+        return values::refused(LACKED);
     }
-    values::values_of(previous, forms::form_of(command))
+    values::values_of(forms::form_of(command))
 }

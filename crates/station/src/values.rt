@@ -1,7 +1,7 @@
-// The command values of a form, or 27 or 29 (paper 02, 8/14), and the next master (paper 02, 9/14). Assumes nothing.
+// The command values of a form, or 27 or 29 (paper 02, 8/14). Assumes nothing.
 ghost use Rattle.std.specs.Prelude.{[], ◌∷◌, ◌≡◌};
 ghost use Rattle.station.specs.Station.{asks};
-ghost use Rattle.station.specs.Held.{keeping, held_distance, held_speed, held_move, held_answer};
+ghost use Rattle.station.specs.Held.{answer, held_distance, held_speed, held_move, held_answer};
 
 use crate::forms::Form;
 use crate::points::{Distance, STILL};
@@ -26,26 +26,23 @@ fn asks(command: Command) -> Request
     }
 }
 
-// No command values, for the number that turns a command away; the previous master is kept.
-pub(crate) fn refused(previous: u8, number: u8) -> Converted
-    ensures { result ≡ keeping previous number [] }
+// No command values, for the number that turns a command away.
+pub(crate) fn refused(number: u8) -> Converted
+    ensures { result ≡ answer number [] }
 {
-    let master = host::master::previous_axis(previous);
     let unused = asks(Command::Read(Reading::Status));
     let requests = [unused, unused, unused, unused, unused, unused];
     Converted {
         number,
         count: 0,
         requests,
-        master,
     }
 }
 
-// One command value, which starts nothing: the previous master is kept.
-fn one(previous: u8, command: Command) -> Converted
-    ensures { result ≡ keeping previous 0 (asks command ∷ []) }
+// One command value.
+fn one(command: Command) -> Converted
+    ensures { result ≡ answer 0 (asks command ∷ []) }
 {
-    let kept = host::master::previous_axis(previous);
     let first = asks(command);
     let unused = asks(Command::Read(Reading::Status));
     let requests = [first, unused, unused, unused, unused, unused];
@@ -53,27 +50,23 @@ fn one(previous: u8, command: Command) -> Converted
         number: 0,
         count: 1,
         requests,
-        master: kept,
     }
 }
 
 // n pps are 4n units.
-fn speed(previous: u8, n: u32) -> Converted
-    ensures { result ≡ held_speed previous n }
+fn speed(n: u32) -> Converted
+    ensures { result ≡ held_speed n }
 {
     if n == 0 {
-        return refused(previous, OUT_OF_RANGE);
+        return refused(OUT_OF_RANGE);
     }
     if TOP_SPEED < n {
-        return refused(previous, OUT_OF_RANGE);
+        return refused(OUT_OF_RANGE);
     }
-    one(
-        previous,
-        Command::Set {
-            code: 8,
-            value: 4 * n,
-        },
-    )
+    one(Command::Set {
+        code: 8,
+        value: 4 * n,
+    })
 }
 
 // The distance of an axis.
@@ -88,16 +81,16 @@ fn distance(axis: u8, d: Distance) -> Request
 }
 
 // X is axis 0, Y axis 1; the other axes get distance 0; then the plain start, the longer axis its master.
-fn drive(previous: u8, x: Distance, y: Distance) -> Converted
-    ensures { result ≡ held_move previous x y }
+fn drive(x: Distance, y: Distance) -> Converted
+    ensures { result ≡ held_move x y }
 {
     if TOP_DISTANCE < x.size {
-        return refused(previous, OUT_OF_RANGE);
+        return refused(OUT_OF_RANGE);
     }
     if TOP_DISTANCE < y.size {
-        return refused(previous, OUT_OF_RANGE);
+        return refused(OUT_OF_RANGE);
     }
-    let master = host::master::pick_master(previous, [x.size, y.size, 0, 0, 0]);
+    let master = host::pick_master([x.size, y.size, 0, 0, 0]);
     let first = distance(0, x);
     let second = distance(1, y);
     let third = distance(2, STILL);
@@ -112,18 +105,17 @@ fn drive(previous: u8, x: Distance, y: Distance) -> Converted
         number: 0,
         count: 6,
         requests,
-        master,
     }
 }
 
 // What one of the four says.
-pub(crate) fn values_of(previous: u8, form: Form) -> Converted
-    ensures { result ≡ held_answer previous form }
+pub(crate) fn values_of(form: Form) -> Converted
+    ensures { result ≡ held_answer form }
 {
     match form {
-        Form::Other => refused(previous, UNKNOWN),
-        Form::Speed(n) => speed(previous, n),
-        Form::Move { x, y } => drive(previous, x, y),
-        Form::Stop => one(previous, Command::Order(9)),
+        Form::Other => refused(UNKNOWN),
+        Form::Speed(n) => speed(n),
+        Form::Move { x, y } => drive(x, y),
+        Form::Stop => one(Command::Order(9)),
     }
 }

@@ -2,17 +2,16 @@
 use crate::text::Text;
 use crate::{blocks, digests, form, journal_lines, pairs, settings, station_lines, writer};
 
-// The master picker behind a previous master.
+// The master picker.
 fn master(line: &[u8]) -> Text {
     let distances = [
-        form::number(line, 5, 13),
-        form::number(line, 14, 22),
-        form::number(line, 23, 31),
-        form::number(line, 32, 40),
-        form::number(line, 41, 49),
+        form::number(line, 2, 10),
+        form::number(line, 11, 19),
+        form::number(line, 20, 28),
+        form::number(line, 29, 37),
+        form::number(line, 38, 46),
     ];
-    let master = host::master::pick_master(form::byte(line, 2), distances);
-    Text::new().hex(master as u64, 1)
+    Text::new().hex(host::pick_master(distances) as u64, 1)
 }
 
 // What a line is answered.
@@ -23,7 +22,7 @@ pub(crate) fn answer(line: &[u8]) -> Text {
     if form::fits(line, b"W hh f hh hh f hhhhhhhh --") {
         return writer::answer(line, false);
     }
-    if form::fits(line, b"M hh hhhhhhhh hhhhhhhh hhhhhhhh hhhhhhhh hhhhhhhh") {
+    if form::fits(line, b"M hhhhhhhh hhhhhhhh hhhhhhhh hhhhhhhh hhhhhhhh") {
         return master(line);
     }
     if form::fits(line, b"F k g hhhhhhhhhhhhhh hhh") {

@@ -1,17 +1,15 @@
-// The converter of MD5230D commands on a line `C hh hh..`.
+// The converter of MD5230D commands on a line `C hh..`.
 use crate::text::Text;
 use crate::{form, text, writer};
 use station::Converted;
 
-// The number, how many values there are, the master that is passed on, and the lines of all six places.
+// The number, how many values there are, and the lines of all six places.
 fn shown(converted: Converted) -> Text {
     let requests = converted.requests;
     let mut told = Text::new()
         .number(converted.number)
         .with(b' ')
-        .hex(converted.count as u64, 1)
-        .with(b' ')
-        .hex(converted.master as u64, 1);
+        .hex(converted.count as u64, 1);
     for k in 0..6 {
         let request = requests[k];
         let more = writer::with_line(told, b" ", request);
@@ -20,17 +18,17 @@ fn shown(converted: Converted) -> Text {
     told
 }
 
-// The previous master and a command of up to 47 bytes, or a line of no form.
+// A command of up to 48 bytes, or a line of no form.
 pub(crate) fn answer(line: &[u8]) -> Text {
     let n = line.len();
-    if n < 5 {
+    if n < 2 {
         return text::question();
     }
     let longest =
-        b"C hh hhhhhhhhhhhhhhhhhhhhhhhhhhhhhhhhhhhhhhhhhhhhhhhhhhhhhhhhhhhhhhhhhhhhhhhhhhhhhhhhhhhhhhhhhhhhhh";
-    if n % 2 == 1 && form::fits(line, block::front(longest, n)) {
-        let bytes = form::bytes(line, 5);
-        return shown(station::convert(form::byte(line, 2), block::front(&bytes, n / 2 - 2)));
+        b"C hhhhhhhhhhhhhhhhhhhhhhhhhhhhhhhhhhhhhhhhhhhhhhhhhhhhhhhhhhhhhhhhhhhhhhhhhhhhhhhhhhhhhhhhhhhhhhhh";
+    if n % 2 == 0 && form::fits(line, block::front(longest, n)) {
+        let bytes = form::bytes(line, 2);
+        return shown(station::convert(block::front(&bytes, n / 2 - 1)));
     }
     text::question()
 }

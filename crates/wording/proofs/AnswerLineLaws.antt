@@ -28,31 +28,31 @@ one_part : (x : List ℕ) → Clean x → parts 10 x ≡ 1
 one_part x h = omega (arith, clean_marks x h)
 
 -- What is answered to a command, by its number.
-command_lines : (p : ℕ) (l : List ℕ) (t : Bool) → eqb (number_of (command_in l)) 0 ≡ t
-    → parts 10 (cond t (lines_text (values_in p (command_in l))) (turned_text (number_of (command_in l))))
-    ≡ cond t (length (values_in p (command_in l))) 1
-command_lines p l true e =
-    lines_parts (values_in p (command_in l)) ((writable p (command_in l)).some (eqb-true (number_of (command_in l)) 0 e))
-command_lines p l false e = one_part (turned_text (number_of (command_in l))) (turned (number_of (command_in l)))
+command_lines : (l : List ℕ) (t : Bool) → eqb (number_of (command_in l)) 0 ≡ t
+    → parts 10 (cond t (lines_text (values_in (command_in l))) (turned_text (number_of (command_in l))))
+    ≡ cond t (length (values_in (command_in l))) 1
+command_lines l true e =
+    lines_parts (values_in (command_in l)) ((writable (command_in l)).some (eqb-true (number_of (command_in l)) 0 e))
+command_lines l false e = one_part (turned_text (number_of (command_in l))) (turned (number_of (command_in l)))
 
-module _ (k : ℕ) (l : List ℕ) (c : Clean l) (h : length l < 100) where
+module _ (l : List ℕ) (c : Clean l) (h : length l < 100) where
   -- A line that is neither over-long nor a command, by what it is.
-  plain_line : is_station l ≡ false → (b s : Bool) → is_block l ≡ b → are_sums l ≡ s → Clean (answer_text k l)
+  plain_line : is_station l ≡ false → (b s : Bool) → is_block l ≡ b → are_sums l ≡ s → Clean (answer_text l)
   unfolding is_line
-  plain_line n true s p q = rw (block_is k l h n p) (block l)
-  plain_line n false true p q = rw (sums_are k l h n p q) c
-  plain_line n false false p q = rw (words_are k l h n p q) (said k l)
+  plain_line n true s p q = rw (block_is l h n p) (block l)
+  plain_line n false true p q = rw (sums_are l h n p q) c
+  plain_line n false false p q = rw (words_are l h n p q) (said l)
 
-  short_lines : (t : Bool) → is_station l ≡ t → parts 10 (answer_text k l) ≡ lines_to k l
+  short_lines : (t : Bool) → is_station l ≡ t → parts 10 (answer_text l) ≡ lines_to l
   unfolding station_text
   short_lines true e =
-      rw (station_is k l h e, lt-ltb (length l) 100 h, e) (command_lines k l (eqb (number_of (command_in l)) 0) refl)
+      rw (station_is l h e, lt-ltb (length l) 100 h, e) (command_lines l (eqb (number_of (command_in l)) 0) refl)
   short_lines false e =
       rw (lt-ltb (length l) 100 h, e)
-      (one_part (answer_text k l) (plain_line e (is_block l) (are_sums l) refl refl))
+      (one_part (answer_text l) (plain_line e (is_block l) (are_sums l) refl refl))
 
 pub answer_lines : AnswerLines
-answer_lines k l p =
-    by_le {A = ℕ} (λ (x : ℕ). parts 10 (answer_text k l) ≡ lines_to k l) 100 (length l) 0 0
-    (λ h. rw (overlong_is k l h, le-ltb (length l) 100 h) (one_part _ (overlong l)))
-    (λ h. short_lines k l (marks_clean l (omega (arith, p))) h (is_station l) refl)
+answer_lines l p =
+    by_le {A = ℕ} (λ (x : ℕ). parts 10 (answer_text l) ≡ lines_to l) 100 (length l) 0 0
+    (λ h. rw (overlong_is l h, le-ltb (length l) 100 h) (one_part _ (overlong l)))
+    (λ h. short_lines l (marks_clean l (omega (arith, p))) h (is_station l) refl)

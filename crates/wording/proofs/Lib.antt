@@ -1,7 +1,5 @@
 pub mod AnswerLineLaws
 pub mod ConvertedLaws
-pub mod KeptLaws
-pub mod MasterRowLaws
 pub mod MeantLengths
 pub mod OneLineLaws
 pub mod PageLaws

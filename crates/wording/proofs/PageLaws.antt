@@ -18,6 +18,7 @@ use Rattle.phrases.specs.Meanings.{asked_meant, meant_by}
 use Rattle.phrases.specs.Phrases.{request_text, command_text, words_text}
 use Rattle.readout.specs.Readout.{block_text}
 use Rattle.reader.specs.Reader.{fields_in, read_of}
+use Rattle.host.specs.Master.{master_of}
 use Rattle.host.specs.Writer.{line_of}
 use Rattle.block.specs.Block.{block_of}
 use Rattle.figures.specs.Figures.{Answer, asks}
@@ -34,7 +35,6 @@ use Rattle.wording.specs.Page.{
   FormRows,
   Page,
 }
-use Rattle.wording.proofs.MasterRowLaws.{masters}
 use Rattle.wording.proofs.StationRowLaws.{stations}
 use Rattle.wording.proofs.TrialRowLaws.{trials}
 
@@ -43,7 +43,7 @@ abbrev asked : String → ℕ → Answer ℕ → List ℕ
 asked l code units = request_text false Absent (chars l) (asked_meant (asks (Set code) units))
 
 commands : CommandRows
-unfolding six_of number_of before behind marks same common spell decimal_of read_on noughts sentences states
+unfolding master_of six_of number_of before behind marks same common spell decimal_of read_on noughts sentences states
     keywords forms closest place_in meant_by command_text words_text block_text fields_in read_of line_of block_of sums_in
     is_station answer_text
 commands = record {
@@ -70,7 +70,7 @@ commands = record {
 }
 
 marked : MarkRows
-unfolding six_of number_of before behind marks same common spell decimal_of read_on noughts sentences states
+unfolding master_of six_of number_of before behind marks same common spell decimal_of read_on noughts sentences states
     keywords forms closest place_in meant_by command_text words_text block_text fields_in read_of line_of block_of sums_in
     is_station answer_text
 marked = record {
@@ -82,17 +82,18 @@ marked = record {
 }
 
 programs : ProgramRows
-unfolding six_of number_of before behind marks same common spell decimal_of read_on noughts sentences states
+unfolding master_of six_of number_of before behind marks same common spell decimal_of read_on noughts sentences states
     keywords forms closest place_in meant_by command_text words_text block_text fields_in read_of line_of block_of sums_in
     is_station answer_text
 programs = record {
   opening = refl;
+  master = refl;
   ticks = refl;
   ticks_with_word = refl;
 }
 
 replies : ReplyRows
-unfolding six_of number_of before behind marks same common spell decimal_of read_on noughts sentences states
+unfolding master_of six_of number_of before behind marks same common spell decimal_of read_on noughts sentences states
     keywords forms closest place_in meant_by command_text words_text block_text fields_in read_of line_of block_of sums_in
     is_station answer_text
 replies = record {
@@ -128,7 +129,7 @@ replies = record {
 }
 
 nearest : NearestRows
-unfolding six_of number_of before behind marks same common spell decimal_of read_on noughts sentences states
+unfolding master_of six_of number_of before behind marks same common spell decimal_of read_on noughts sentences states
     keywords forms closest place_in meant_by command_text words_text block_text fields_in read_of line_of block_of sums_in
     is_station answer_text
 nearest = record {
@@ -141,7 +142,7 @@ nearest = record {
 }
 
 axes : AxisRows
-unfolding six_of number_of before behind marks same common spell decimal_of read_on noughts sentences states
+unfolding master_of six_of number_of before behind marks same common spell decimal_of read_on noughts sentences states
     keywords forms closest place_in meant_by command_text words_text block_text fields_in read_of line_of block_of sums_in
     is_station answer_text
 axes = record {
@@ -191,5 +192,4 @@ page = record {
   axes = axes;
   forms_are = forms_are;
   stations = stations;
-  masters = masters;
 }

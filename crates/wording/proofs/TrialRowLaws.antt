@@ -35,7 +35,7 @@ million =
 
 -- ---- The rows
 
-alone_text : answer_text 0 (chars "trial 0") ≡ trial_line_text 0 1000000 0
+alone_text : answer_text (chars "trial 0") ≡ trial_line_text 0 1000000 0
 unfolding before behind marks same read_on keywords place_in words_text is_station answer_text
 alone_text = refl
 
@@ -44,7 +44,7 @@ alone_ends : chars "D " ++ (decimal_of 0 ++ (chars " " ++ (chars "1000000" ++ (c
 unfolding six_of spell decimal_of
 alone_ends = refl
 
-alone_row : answer_text 0 (chars "trial 0") ≡ chars "D 0 1000000 000000"
+alone_row : answer_text (chars "trial 0") ≡ chars "D 0 1000000 000000"
 alone_row =
     alone_text
     ∙ (ap (λ (x : List ℕ). chars "D " ++ (decimal_of 0 ++ (chars " " ++ (x ++ (chars " " ++ six_of 0))))) million

@@ -90,11 +90,11 @@ opening l =
     either (eqb (words l) 1) (part end_byte 0 watch_off) (nearest_text l) (first_part end_byte watch_off refl)
     (question (word 0 (body_of l)))
 
-master : (p : ℕ) (l : List ℕ) → Clean (master_text p l)
+master : (l : List ℕ) → Clean (master_text l)
 unfolding is_line
-master p l =
-    either (are_distances l) (chars "master " ++ decimal_of (master_of p (distances_of l))) (nearest_text l)
-    (decimal (master_of p (distances_of l))) (question (word 0 (body_of l)))
+master l =
+    either (are_distances l) (chars "master " ++ decimal_of (master_of (distances_of l))) (nearest_text l)
+    (decimal (master_of (distances_of l))) (question (word 0 (body_of l)))
 
 tick : (n w : ℕ) → Clean (tick_text n w)
 unfolding is_line
@@ -146,14 +146,14 @@ trial l =
     (either (eqb (words l) 3) b e (tried l k n (S.Number 0))
     (either (eqb (words l) 4) d (nearest_text l) (tried l k n w) (question (word 0 (body_of l)))))
 
-pub said : (p : ℕ) (l : List ℕ) → Clean (words_text p l)
+pub said : (l : List ℕ) → Clean (words_text l)
 unfolding words_text
-said p l =
+said l =
     let k = place_of (word 0 l) in
     let d = cond (eqb k K.trial) (trial_text l) (command_text l) in
     let t = cond (eqb k K.ticks) (ticks_text l) d in
-    either (eqb k K.opening) (opening_text l) (cond (eqb k K.master) (master_text p l) t) (opening l)
-    (either (eqb k K.master) (master_text p l) t (master p l)
+    either (eqb k K.opening) (opening_text l) (cond (eqb k K.master) (master_text l) t) (opening l)
+    (either (eqb k K.master) (master_text l) t (master l)
     (either (eqb k K.ticks) (ticks_text l) d (ticks l)
     (either (eqb k K.trial) (trial_text l) (command_text l) (trial l) (command l))))
 

@@ -104,13 +104,13 @@ opening_most l =
     either_short (eqb (words l) 1) (part end_byte 0 watch_off) (nearest_text l)
     (short (part end_byte 0 watch_off) (omega (arith, first_short end_byte watch_off))) (nearest_most l)
 
-axis_most : (p : ℕ) (l : List ℕ) → master_of p l < 4294967296
-axis_most p l = let a = (masters.master_longest p l).axis in omega (arith, a)
+axis_most : (l : List ℕ) → master_of l < 4294967296
+axis_most l = let a : master_of l < 5 = (masters.picked l {k = master_of l} refl).1.axis in omega (arith, a)
 
-master_most : (p : ℕ) (l : List ℕ) → Short (master_text p l)
-master_most p l =
-    let d = decimal_of (master_of p (distances_of l)) in
-    let e : length d ≤ 10 = decimal_ten (master_of p (distances_of l)) (axis_most p (distances_of l)) in
+master_most : (l : List ℕ) → Short (master_text l)
+master_most l =
+    let d = decimal_of (master_of (distances_of l)) in
+    let e : length d ≤ 10 = decimal_ten (master_of (distances_of l)) (axis_most (distances_of l)) in
     either_short (are_distances l) (chars "master " ++ d) (nearest_text l)
     (short (chars "master " ++ d) (omega (arith, length-append (chars "master ") d)))
     (nearest_most l)
@@ -170,13 +170,13 @@ tried_most l (S.Number k) (S.Number n) (S.Number w) = trial_line_most k n w
 trial_most : (l : List ℕ) → Short (trial_text l)
 trial_most l = search (either_short, tried_most, nearest_most l)
 
-words_short : (p : ℕ) (l : List ℕ) → Short (words_text p l)
+words_short : (l : List ℕ) → Short (words_text l)
 unfolding words_text
-words_short p l =
-    search (either_short, opening_most l, master_most p l, ticks_most l, trial_most l, command_most l) depth 15
+words_short l =
+    search (either_short, opening_most l, master_most l, ticks_most l, trial_most l, command_most l) depth 15
 
-pub words_most : (p : ℕ) (l : List ℕ) → length (words_text p l) ≤ 200
-words_most p l = most (words_text p l) (words_short p l)
+pub words_most : (l : List ℕ) → length (words_text l) ≤ 200
+words_most l = most (words_text l) (words_short l)
 
 pub overlong_most : (l : List ℕ) → length (overlong_text l) ≤ 200
 unfolding overlong_text

@@ -1,4 +1,3 @@
-pub mod MasterPage
 pub mod Page
 pub mod Promises
 pub mod StationPage

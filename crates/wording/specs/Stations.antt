@@ -1,10 +1,8 @@
 -- What the desk answers to a command of an MD5230D station (docs/PROTOCOL.md, "Lines of the other bench make"; paper
--- 02, 8/14): the lines of the command values that the converter gives behind the previous master p (9/14), or the number
--- that turns the command away.
+-- 02, 8/14): the lines of the command values that the converter gives, or the number that turns the command away.
 use Rattle.std.specs.Prelude.{ℕ, Bool, false, cond, List, [], ◌∷◌, ◌++◌, eqb, length, get_or, take}
 use Rattle.line.specs.Ranges.{is_within}
 use Rattle.host.specs.declared.Request.{Request}
-use Rattle.station.specs.Forms.{ended}
 use Rattle.station.specs.Station.{number_of, values_in}
 use Rattle.station.specs.declared.Converted.{Converted}
 use Rattle.sentences.specs.Sentences.{turned_text}
@@ -30,7 +28,7 @@ is_station l = is_name (word 0 l)
 
 -- The command as the station has it, the byte 00 behind it.
 abbrev pub command_in : List ℕ → List ℕ
-command_in l = ended l
+command_in l = l ++ (0 ∷ [])
 
 -- ---- The lines of command values, each without 0D, a line feed (10) between two of them
 
@@ -53,5 +51,5 @@ used_in c = take c.count c.requests
 abbrev pub converted_text : ℕ → List Request → List ℕ
 converted_text n rs = cond (eqb n 0) (lines_text rs) (turned_text n)
 
-unfoldable pub station_text : ℕ → List ℕ → List ℕ
-station_text p l = converted_text (number_of (command_in l)) (values_in p (command_in l))
+unfoldable pub station_text : List ℕ → List ℕ
+station_text l = converted_text (number_of (command_in l)) (values_in (command_in l))

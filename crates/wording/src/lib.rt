@@ -1,23 +1,18 @@
 // What the program `desk` does with its input (docs/PROTOCOL.md, "From words"), a byte at a time, on values: each line
-// is answered at once, whatever bytes it has and however long it is, and the previous master is kept from line to line
-// (paper 02, 9/14).
+// is answered at once, whatever bytes it has and however long it is.
 // Every public function is total: it has no premise and states its result for every input. Assumes nothing.
 ghost use Rattle.std.specs.Prelude.{[], ◌≡◌};
 ghost use Rattle.text.specs.Text.{holding, writes};
 ghost use Rattle.wording.specs.Page.{Page};
-ghost use Rattle.wording.specs.Promises.{
-  Whole,
-  AnswerLines,
-  Told,
-  Kept,
-  PassesOn,
-  AnswersInOrder,
-};
+ghost use Rattle.wording.specs.Promises.{Whole, AnswerLines, Told, AnswersInOrder};
 ghost use Rattle.wording.specs.Wording.{
-  kind_of,
+  is_signed,
+  is_sum_at,
+  and_sum,
+  sums_in,
+  are_sums,
   answer_text,
   answer_of,
-  master_after,
   desk_of,
   taken_by,
   finished_by,
@@ -27,18 +22,16 @@ ghost use Rattle.wording.specs.Wording.{
   finished_of,
 };
 
-use host::master::FRESH_MASTER;
+use numerals::Signed;
 use phrases::OVERLONG;
-use text::{FEED, Text};
+use text::{FEED, SPACE, Text, parts};
 
 mod stations;
-mod sums;
 
-// The characters since the last line feed, and the previous master.
+// The characters since the last line feed.
 #[derive(Drop)]
 pub struct Desk {
     line: Text,
-    master: u8,
 }
 
 // The desk after a byte, and what is printed.
@@ -48,131 +41,124 @@ pub struct Taken {
     pub text: Text,
 }
 
-// What a line is.
-#[derive(Drop)]
-enum Kind {
-    Long,
-    Station,
-    Block,
-    Sums,
-    Words,
+// Whether a number was read.
+fn is_signed(s: Signed) -> bool
+    ensures { result ≡ is_signed s }
+{
+    match s {
+        Signed::Not => false,
+        Signed::Number { minus: _, size: _ } => true,
+    }
 }
 
-// What a line is.
-fn kind_of(line: &[u8]) -> Kind
-    ensures { result ≡ kind_of line.now }
+// Whether a sum stands at place k.
+fn is_sum_at(line: &[u8], k: usize) -> bool
+    ensures { result ≡ is_sum_at line.now k }
+{
+    let signed = numerals::read_signed(parts::part(line, SPACE, k));
+    is_signed(signed)
+}
+
+// Whether those so far are sums, and the next is.
+fn and_sum(good: bool, line: &[u8], k: usize) -> bool
+    ensures { result ≡ and_sum good line.now k }
+{
+    if good {
+        return is_sum_at(line, k);
+    }
+    false
+}
+
+// Whether the first five parts are sums.
+fn five_sums(line: &[u8]) -> bool
+    ensures { result ≡ sums_in 5 line.now }
+{
+    let mut good = true;
+    let mut k = 0;
+    while k < 5 {
+        good = and_sum(good, line, k);
+        k += 1;
+    }
+    good
+}
+
+// Whether a line is five sums.
+fn are_sums(line: &[u8]) -> bool
+    ensures { result ≡ are_sums line.now }
+{
+    let n = parts::parts(line, SPACE);
+    if n == 5 {
+        return five_sums(line);
+    }
+    false
+}
+
+// What a line is, and what is printed to it.
+fn answer_text(text: Text, line: &[u8]) -> Text
+    ensures { result ≡ writes text (answer_text line.now) }
 {
     if OVERLONG <= line.len() {
-        return Kind::Long;
+        return phrases::overlong(text, line);
     }
     if stations::is_station(line) {
-        return Kind::Station;
+        return stations::station(text, line);
     }
     if readout::is_block(line) {
-        return Kind::Block;
+        return readout::block(text, line);
     }
-    if sums::are_sums(line) {
-        return Kind::Sums;
+    if are_sums(line) {
+        let word = text.characters(b"pulses ");
+        return word.characters(line);
     }
-    Kind::Words
+    phrases::words(text, line)
 }
 
-// What is printed to a line.
-fn answer_text(text: Text, previous: u8, line: &[u8]) -> Text
-    ensures { result ≡ writes text (answer_text previous line.now) }
-{
-    let kind = kind_of(line);
-    match kind {
-        Kind::Long => phrases::overlong(text, line),
-        Kind::Station => stations::station(text, previous, line),
-        Kind::Block => readout::block(text, line),
-        Kind::Sums => sums::told(text, line),
-        Kind::Words => phrases::words(text, previous, line),
-    }
-}
-
-// The master that is kept behind it.
-fn master_after(previous: u8, line: &[u8]) -> u8
-    ensures { result ≡ master_after previous line.now }
-{
-    let kind = kind_of(line);
-    match kind {
-        Kind::Long => previous,
-        Kind::Station => stations::station_master(previous, line),
-        Kind::Block => previous,
-        Kind::Sums => previous,
-        Kind::Words => phrases::master_after(previous, line),
-    }
-}
-
-// The answer to a line behind the previous master, with its line feed. That no answer is cut, how many lines each has,
-// that replies are told by their figures and commands by their lines, which master is kept, and the examples of
-// docs/PROTOCOL.md, stand here as promises.
-pub fn answer(previous: u8, line: &[u8]) -> Text
-    ensures value { result ≡ holding (answer_of previous line.now) }
+// The answer to a line, with its line feed. That no answer is cut, how many lines each has, that replies are told by
+// their figures and commands by their lines, and the examples of docs/PROTOCOL.md, stand here as promises.
+pub fn answer(line: &[u8]) -> Text
+    ensures value { result ≡ holding (answer_of line.now) }
     ensures whole { Whole }
     ensures answer_lines { AnswerLines }
     ensures told { Told }
-    ensures kept { Kept }
     ensures page { Page }
 {
-    let text = answer_text(Text::new(), previous, line);
+    let text = answer_text(Text::new(), line);
     text.with(FEED)
 }
 
 impl Desk {
-    // No character, and the previous master of a fresh host. What a desk prints to a whole input, and that each line
-    // finds the master that the one before has left, stand here as promises.
+    // No character. What a desk prints to a whole input stands here as a promise.
     pub fn new() -> Desk
-        ensures value { result ≡ desk_of 0 [] }
+        ensures value { result ≡ desk_of [] }
         ensures answers_in_order { AnswersInOrder }
-        ensures passes_on { PassesOn }
     {
         let line = Text::new();
-        Desk {
-            line,
-            master: FRESH_MASTER,
-        }
+        Desk { line }
     }
 
     // The answer to the line that is held.
     fn answered(self) -> Text
-        ensures { result ≡ holding (answer_of self.master (held_line self)) }
+        ensures { result ≡ holding (answer_of (held_line self)) }
     {
         let line = self.line;
         let chars = line.chars;
         let n = line.count as usize;
-        answer(self.master, block::front(&chars, n))
-    }
-
-    // The desk behind it: the next line, and the master that is kept.
-    fn cleared(self) -> Desk
-        ensures { result ≡ desk_of (master_after self.master (held_line self)) [] }
-    {
-        let before = self.line;
-        let chars = before.chars;
-        let n = before.count as usize;
-        let master = master_after(self.master, block::front(&chars, n));
-        let line = Text::new();
-        Desk { line, master }
+        answer(block::front(&chars, n))
     }
 
     // One byte of the input.
     pub fn take(self, b: u8) -> Taken
         ensures value { result ≡ taken_of self b }
-        ensures desks { Desks self (λ p l. result ≡ taken_by p l b) }
+        ensures desks { Desks self (λ l. result ≡ taken_by l b) }
     {
         if b == FEED {
             let text = self.answered();
-            let desk = self.cleared();
+            let desk = Desk::new();
             return Taken { desk, text };
         }
         let before = self.line;
         let line = before.with(b);
-        let desk = Desk {
-            line,
-            master: self.master,
-        };
+        let desk = Desk { line };
         let text = Text::new();
         Taken { desk, text }
     }
@@ -180,7 +166,7 @@ impl Desk {
     // The end of the input.
     pub fn finish(self) -> Text
         ensures value { result ≡ finished_of self }
-        ensures desks { Desks self (λ p l. result ≡ finished_by p l) }
+        ensures desks { Desks self (λ l. result ≡ finished_by l) }
     {
         let line = self.line;
         if line.count == 0 {

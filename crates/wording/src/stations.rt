@@ -12,7 +12,6 @@ ghost use Rattle.wording.specs.Stations.{
   converted_text,
   station_text,
 };
-ghost use Rattle.station.specs.Station.{convert_of, master_in};
 
 use station::Converted;
 use text::{FEED, SPACE, Text, parts};
@@ -94,31 +93,14 @@ fn told(text: Text, converted: Converted) -> Text
     sentences::turned_away(text, n)
 }
 
-// What the converter makes of a command behind the previous master.
-fn converted(previous: u8, line: &[u8]) -> Converted
+// What is printed to a command.
+pub(crate) fn station(text: Text, line: &[u8]) -> Text
     requires { length line.now < 100 }
-    ensures { result ≡ convert_of previous (command_in line.now) }
+    ensures { result ≡ writes text (station_text line.now) }
 {
     let command = command(line);
     let chars = command.chars;
     let n = command.count as usize;
-    station::convert(previous, block::front(&chars, n))
-}
-
-// What is printed to a command.
-pub(crate) fn station(text: Text, previous: u8, line: &[u8]) -> Text
-    requires { length line.now < 100 }
-    ensures { result ≡ writes text (station_text previous line.now) }
-{
-    let converted = converted(previous, line);
+    let converted = station::convert(block::front(&chars, n));
     told(text, converted)
-}
-
-// The master that it passes on.
-pub(crate) fn station_master(previous: u8, line: &[u8]) -> u8
-    requires { length line.now < 100 }
-    ensures { result ≡ master_in previous (command_in line.now) }
-{
-    let converted = converted(previous, line);
-    converted.master
 }

@@ -2,7 +2,7 @@
 
 use super::asked::Asked;
 use super::numbers::{axis, decimal, figure, hexadecimal, signed};
-use super::printed::{Printed, Told};
+use super::Told;
 use crate::command::{Command, CommandValue};
 use crate::figures::{command_of, Setting};
 use crate::host::line_text;
@@ -45,21 +45,10 @@ fn command(words: &[&[u8]]) -> Option<Result<Command, u8>> {
     }
 }
 
-/// From words, the previous master: the master of a start, plain or after the dwell; no other command names one.
-fn named(command: Command) -> Option<u8> {
-    match command {
-        Command::Start { master } | Command::StartAfterDwell { master } => Some(master),
-        _ => None,
-    }
-}
-
 /// From words: the writer's line of the words without its 0D, or the number that turns them away. A figure is judged
-/// (21) before there is a command value for the writer (19). A master is named where the line is printed.
+/// (21) before there is a command value for the writer (19).
 pub(super) fn told(asked: &Asked, words: &[&[u8]]) -> Option<Told> {
     let (silent, identification) = (asked.silent, asked.identification);
-    let line = |command| {
-        let text = line_text(&CommandValue { command, silent, identification })?;
-        Ok(Printed { text, master: named(command) })
-    };
+    let line = |command| line_text(&CommandValue { command, silent, identification });
     Some(command(words)?.and_then(line))
 }

@@ -2,7 +2,7 @@
 //! program preview's D line.
 
 use super::numbers::{decimal, hexadecimal};
-use super::printed::{Printed, Told};
+use super::Told;
 use crate::bench::MOST_TICKS;
 use crate::host::{pick_master, watch_off_line};
 use crate::line::LINE_END;
@@ -16,13 +16,11 @@ fn opening() -> String {
     watch_off_line().iter().take_while(|&&byte| byte != LINE_END).map(|&byte| byte as char).collect()
 }
 
-/// From words: `master` and the distances of axes 0 to 4, of any size. The previous master: the axis that is printed is
-/// kept.
-fn master(previous: u8, words: &[&[u8]]) -> Option<Printed> {
+/// From words: `master` and the distances of axes 0 to 4, of any size.
+fn master(words: &[&[u8]]) -> Option<String> {
     let distances: Option<Vec<u32>> = words.iter().map(|word| decimal(word)).collect();
     let distances: [u32; 5] = distances?.try_into().ok()?;
-    let master = pick_master(previous, distances);
-    Some(Printed { text: format!("master {master}"), master: Some(master) })
+    Some(format!("master {}", pick_master(distances)))
 }
 
 /// From words: `ticks`; 1 to 1,000,000 of them, any other number has no form.
@@ -35,7 +33,7 @@ fn tick_line(count: u32, word: u32) -> Told {
     if word > 0xFFFFFF {
         return Err(LARGE_WORD);
     }
-    Ok(Printed::without_master(format!("T {count} {word:06X}")))
+    Ok(format!("T {count} {word:06X}"))
 }
 
 /// From words: `trial` with the master alone asks for the most ticks, all with the input word 0. Where a word is no
@@ -49,18 +47,17 @@ fn tried(words: &[&[u8]]) -> Option<(u32, u32, u32)> {
     }
 }
 
-/// From words: the program preview's D line, or 3, 25 or 10, the first that applies. A trial is no start: it names no
-/// master to the lines behind it.
+/// From words: the program preview's D line, or 3, 25 or 10, the first that applies.
 fn trial_line(master: u32, ticks: u32, word: u32) -> Told {
     trial::check(master, word, ticks)?;
-    Ok(Printed::without_master(format!("D {master} {ticks} {word:06X}")))
+    Ok(format!("D {master} {ticks} {word:06X}"))
 }
 
 /// From words: what the words of the second table print.
-pub(super) fn told(previous: u8, words: &[&[u8]]) -> Option<Told> {
+pub(super) fn told(words: &[&[u8]]) -> Option<Told> {
     match words {
-        [b"opening"] => Some(Ok(Printed::without_master(opening()))),
-        [b"master", distances @ ..] => master(previous, distances).map(Ok),
+        [b"opening"] => Some(Ok(opening())),
+        [b"master", distances @ ..] => master(distances).map(Ok),
         [b"ticks", count] => Some(tick_line(tick_count(count)?, 0)),
         [b"ticks", count, word] => Some(tick_line(tick_count(count)?, hexadecimal(word)?)),
         [b"trial", words @ ..] => tried(words).map(|(master, ticks, word)| trial_line(master, ticks, word)),

@@ -1,6 +1,7 @@
 //! From words: reply blocks in words.
 
 use super::sentences::turned_away;
+use super::Told;
 use crate::digit::{capital_digit_value, digit_character};
 use crate::host::{read_block, Block, Reading};
 use crate::line::LINE_END;
@@ -101,6 +102,6 @@ fn block_words(block: Block) -> String {
 }
 
 /// From words: a reply block in words, 0D in the place of its line feed; 20 where the reader takes no block.
-pub(super) fn in_words(line: &[u8]) -> Result<String, u8> {
+pub(super) fn in_words(line: &[u8]) -> Told {
     read_block(&[line, &[LINE_END]].concat()).map(block_words)
 }

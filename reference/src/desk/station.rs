@@ -1,7 +1,7 @@
 //! From words, rule 2, and "Lines of the other bench make": commands of an MD5230D station, typed without their 00.
 
 use super::nearest::first_word;
-use super::printed::{Printed, Told};
+use super::Told;
 use crate::host::line_text;
 use crate::station::{convert, NULL};
 
@@ -14,13 +14,12 @@ pub(super) fn begins_as_command(line: &[u8]) -> bool {
     first.len() == LETTERS && first.iter().all(u8::is_ascii_uppercase)
 }
 
-/// Lines of the other bench make: the lines of a command, each on a line of its own; or 27, 28 or 29. Paper 02, 9/14:
-/// the desk hands on the master that the converter tells, which of a speed and of a stop is the previous one.
-pub(super) fn told(previous: u8, line: &[u8]) -> Told {
-    let converted = convert(previous, &[line, &[NULL]].concat());
+/// Lines of the other bench make: the lines of a command, each on a line of its own; or 27, 28 or 29.
+pub(super) fn told(line: &[u8]) -> Told {
+    let converted = convert(&[line, &[NULL]].concat());
     if converted.number != 0 {
         return Err(converted.number);
     }
     let lines: Result<Vec<String>, u8> = converted.used().iter().map(line_text).collect();
-    Ok(Printed { text: lines?.join("\n"), master: Some(converted.master) })
+    Ok(lines?.join("\n"))
 }

@@ -1,23 +1,6 @@
-//! From words: every example line of the section, in the order of the page; but the table of previous masters, which is
-//! one of a fresh desk, stands first.
+//! From words: every example line of the section, in the order of the page.
 
 use super::lines::Lines;
-
-/// From words, the previous master: what is typed at a fresh desk, in this order.
-const PREVIOUS_MASTER: [&str; 12] = [
-    "master 5 5 0 0 0",
-    "master 0 7 7 0 0",
-    "master 9 9 9 0 0",
-    "master 5 9 0 0 0",
-    "start 4",
-    "start 5",
-    "master 0 0 0 0 0",
-    "LNI X 5,Y -5",
-    "INC X 0",
-    "INC X 3",
-    "SPD Y 1000",
-    "LNI X -4, Y 4",
-];
 
 /// From words, first table, and the examples under it.
 const COMMANDS: [&str; 25] = [
@@ -97,11 +80,6 @@ const REPLIES: [&str; 29] = [
     "s0000abca",
     "1 -1 0 0 0",
 ];
-
-/// From words, the previous master: the rows of its table.
-pub(super) fn previous_master(lines: &mut Lines) {
-    lines.each(&PREVIOUS_MASTER);
-}
 
 /// From words: the examples.
 pub(super) fn examples(lines: &mut Lines) {

@@ -3,10 +3,8 @@
 use super::lines::Lines;
 use crate::station::NAMES;
 
-/// Lines of the other bench make: every example of the section, in the order of the page; before the first a start that
-/// names 0, the master of a fresh desk. The second `LNI` is one behind a move of Y.
-const PAGE: [&str; 26] = [
-    "start 0",
+/// Lines of the other bench make: every example of the section, in the order of the page.
+const PAGE: [&str; 25] = [
     "LNI X -20000, Y 20000",
     "SPD X 35000",
     "INC X 5000",
@@ -157,11 +155,6 @@ fn lengths(lines: &mut Lines) {
         lines.line(&format!("SPD Y {}", "9".repeat(length - 6)));
         lines.line(&format!("FOO {}", "x".repeat(length - 4)));
     }
-}
-
-/// Lines of the other bench make: the first example of the section, which a fresh desk answers.
-pub(super) fn first_example(lines: &mut Lines) {
-    lines.line(PAGE[1]);
 }
 
 /// From words: commands of a station, and what is near them.

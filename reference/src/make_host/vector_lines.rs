@@ -2,7 +2,7 @@
 
 use crate::fields::bytes_text;
 use crate::line::with_line_end;
-use crate::text::{Text, PREVIOUS_MASTERS};
+use crate::text::Text;
 
 impl Text {
     /// Stored vectors, W: a writer's line.
@@ -42,16 +42,9 @@ impl Text {
     }
 
     /// Stored vectors, M: a picker's line.
-    pub(super) fn picker(&mut self, previous: u8, distances: [u32; 5]) {
+    pub(super) fn picker(&mut self, distances: [u32; 5]) {
         let fields: Vec<String> = distances.iter().map(|distance| format!("{distance:08X}")).collect();
-        self.plain(&format!("M {previous:02X} {}", fields.join(" ")));
-    }
-
-    /// Stored vectors, M: a picker's line of these distances for each previous master that is tried.
-    pub(super) fn pickers(&mut self, distances: [u32; 5]) {
-        for previous in PREVIOUS_MASTERS {
-            self.picker(previous, distances);
-        }
+        self.plain(&format!("M {}", fields.join(" ")));
     }
 
     /// Stored vectors, F: m × 2 to the e, of both kinds.

@@ -1,18 +1,13 @@
 //! A dose on screen first: drawn sessions of lines, ticks and trials in any order.
 
 use super::session::Session;
+use crate::host::pick_master;
 use crate::make_lists::drawn::{drawn_line, drawn_word, Draw};
 
 /// Shares: five drawn distances, short ones often, so that doses end within the ticks.
 fn drawn_distances(draw: &mut Draw) -> [u32; 5] {
     let most = [4, 30, 300, 1_500][draw.below(4) as usize];
     [0; 5].map(|_| if draw.below(3) == 0 { 0 } else { draw.below(most) })
-}
-
-/// Shares: one of the longest axes, the lowest; a trial and a start may name any of them.
-fn longest_axis(distances: [u32; 5]) -> u32 {
-    let longest = distances.into_iter().max();
-    (0..).zip(distances).find(|&(_, distance)| Some(distance) == longest).map_or(0, |(axis, _)| axis)
 }
 
 /// Shares: the lines of five distances, in drawn directions; under way they are turned away unseen.
@@ -50,7 +45,7 @@ fn freed(session: &mut Session) {
 /// A dose on screen first: distances and a few lines, a trial, a start or none, some ticks, and a trial.
 fn drawn_round(session: &mut Session, draw: &mut Draw) {
     let distances = drawn_distances(draw);
-    let longest = longest_axis(distances);
+    let longest = u32::from(pick_master(distances));
     set_distances(session, draw, distances);
     drawn_setting(session, draw);
     for _ in 0..draw.below(3) {

@@ -75,13 +75,13 @@ pub(super) fn long_numbers(text: &mut Text) {
     text.ended_commands(&["LNI X 4294967301,Y 5", "LNI X 5, Y -18446744073709551619"]);
 }
 
-/// 8/14: forty digits, of a distance with its sign one less; zeros before a number in range leave it so.
+/// 8/14: forty digits; zeros before a number in range leave it so.
 pub(super) fn most_bytes(text: &mut Text) {
-    text.heading("commands of 47 bytes: numbers of forty digits and of 39, those with leading zeros in range");
+    text.heading("numbers of forty digits, those with leading zeros in range; commands of 48 bytes");
     for digits in ["9".repeat(40), format!("{:040}", 250_000), format!("{:040}", 250_001)] {
         text.ended_command(&format!("SPD Y {digits}"));
-        text.ended_command(&format!("INC X -{}", &digits[1..]));
+        text.ended_command(&format!("INC X -{digits}"));
     }
-    text.ended_command(&format!("LNI X -{:018},Y -{:017}", 524_287, 524_287));
-    text.ended_command(&format!("LNI X {:017}, Y -{:018}", 524_287, 524_288));
+    text.ended_command(&format!("LNI X -{:018},Y -{:018}", 524_287, 524_287));
+    text.ended_command(&format!("LNI X {:018}, Y -{:018}", 524_287, 524_288));
 }

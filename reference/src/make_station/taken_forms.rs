@@ -18,7 +18,7 @@ const EXAMPLES: [&str; 12] = [
     "LNI X -20000,Y 20000",
 ];
 
-/// 8/14: the longer axis is master; 9/14: where both are as long X is, which a fresh host has as previous master.
+/// 8/14: the longer axis is master, X where both are as long.
 const LENGTHS: [(u32, u32); 5] = [(7, 8), (8, 7), (8, 8), (0, 1), (1, 0)];
 
 /// 8/14: every form that is taken; of LNI each pair of signs.

@@ -23,7 +23,7 @@ fn start_master(sequence: &mut Sequence, next_distances: [u32; 5]) -> u64 {
     if sequence.below(4) == 0 {
         sequence.below(5)
     } else {
-        pick_master(0, next_distances) as u64
+        pick_master(next_distances) as u64
     }
 }
 

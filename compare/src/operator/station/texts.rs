@@ -36,10 +36,10 @@ impl Operator {
         }
     }
 
-    /// A move of one axis or of both, often as long or all but as long.
+    /// A move of one axis or of both, at times as long or all but as long.
     pub(super) fn move_text<B: Bench>(&mut self, bench: &B) -> String {
         let (one, any) = (self.station_distance(bench), self.station_distance(bench));
-        let other = self.random.pick(&[one, one, (one + 1).min(LONGEST), any, any]);
+        let other = self.random.pick(&[one, (one + 1).min(LONGEST), any, any, any]);
         let (x, y) = (self.signed(bench, 0, one), self.signed(bench, 1, other));
         match self.random.below(5) {
             0 => format!("INC X {x}"),

@@ -20,16 +20,14 @@ start w = w.before.before.before
 
 -- What is printed is the text at the place that was found, with the promises.
 placed : (w : tie.After-place-of) {r : Text} {a : List ℕ} → r ≡ writes (start w).args.text a
-    → a ≡ text_at (start w).args.previous w.place_of.result (start w).args.line.now
-    → (r ≡ writes (start w).args.text (words_text (start w).args.previous (start w).args.line.now))
-    × (SameLine × (TickLine × TrialLine))
+    → a ≡ text_at w.place_of.result (start w).args.line.now
+    → (r ≡ writes (start w).args.text (words_text (start w).args.line.now)) × (SameLine × (TickLine × TrialLine))
 unfolding words_text
 placed w p q =
     let l = (start w).args.line.now in (
       p
           ∙ ap (writes (start w).args.text)
-          (q ∙ ap (λ (k : ℕ). text_at (start w).args.previous k l)
-          (w.place_of.ensures.0 ∙ ap place_of w.before.part.ensures)),
+          (q ∙ ap (λ (k : ℕ). text_at k l) (w.place_of.ensures.0 ∙ ap place_of w.before.part.ensures)),
       (same_line, (tick_line, trial_line)),
     )
 

@@ -17,7 +17,7 @@ use Rattle.station.specs.Places.{Places}
 use Rattle.station.specs.Executed.{Executes}
 use Rattle.station.specs.Witness.{Witness}
 use Rattle.station.specs.Taken.{Taken}
-use Rattle.station.specs.Held.{held_form, keeping, held_answer}
+use Rattle.station.specs.Held.{held_form, answer, held_answer}
 use Rattle.station.proofs.ValueLaws.{converted}
 use Rattle.station.proofs.SpelledLaws.{spelled}
 use Rattle.station.proofs.ExampleLaws.{examples}
@@ -46,13 +46,10 @@ ours f = f.is_ours.ensures ∙ ap is_ours f.before.before.before.name_of.ensures
 abbrev given : tie.Else1 → List ℕ
 given f = f.before.before.before.before.args.command.now
 
-abbrev former : tie.Else1 → ℕ
-former f = f.before.before.before.before.args.previous
-
 past : (f : tie.Else1) {r : Converted}
-    → r ≡ cond (is_ours (name_of (given f))) (held_answer (former f) (held_form (form_of (given f)))) (keeping (former f) 28 [])
-    → r ≡ convert_of (former f) (given f)
-past f p = on_true _ _ _ _ (sym (listed f.before) ∙ not-false _ f.if1.false) p ∙ converted (former f) (given f)
+    → r ≡ cond (is_ours (name_of (given f))) (held_answer (held_form (form_of (given f)))) (answer 28 [])
+    → r ≡ convert_of (given f)
+past f p = on_true _ _ _ _ (sym (listed f.before) ∙ not-false _ f.if1.false) p ∙ converted (given f)
 
 name_of_requires : tie.Need-name-of-requires
 name_of_requires c κs = search rules
@@ -67,8 +64,7 @@ returns : tie.Need-returns
 returns c =
     promised
     (on_false _ _ _ _ (sym (listed c.before.before) ∙ not-true _ c.before.if1.true) c.refused.ensures
-    ∙ converted c.before.before.before.before.before.args.previous
-    c.before.before.before.before.before.args.command.now)
+    ∙ converted c.before.before.before.before.before.args.command.now)
 
 is_ours_requires : tie.Need-is-ours-requires
 is_ours_requires c κs = search rules
@@ -93,7 +89,7 @@ returns_3 c =
     promised
     (past c.before.before.before.before
     (on_true _ _ _ _ (sym (ours c.before.before.before) ∙ not-false _ c.before.before.if2.false)
-    (c.values_of.ensures ∙ ap (held_answer (former c.before.before.before.before)) c.before.form_of.ensures)))
+    (c.values_of.ensures ∙ ap held_answer c.before.form_of.ensures)))
 
 pub convert_spec : {M : Type 1} → statement M
 convert_spec =

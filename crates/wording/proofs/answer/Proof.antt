@@ -7,7 +7,6 @@ use Rattle.text.proofs.TextLaws.{writes_last, writes_holding}
 use Rattle.wording.specs.Wording.{answer_text, answer_of}
 use Rattle.wording.proofs.PageLaws.{page}
 use Rattle.wording.proofs.AnswerLineLaws.{answer_lines}
-use Rattle.wording.proofs.KeptLaws.{kept}
 use Rattle.wording.proofs.ToldLaws.{told}
 use Rattle.wording.proofs.WholeLaws.{whole}
 use borrow.Author.Rules.{rules}
@@ -25,14 +24,12 @@ with_requires c κs = search rules
 
 returns : tie.Need-returns
 returns c =
-    let s = c.before.before.before.before.args in
-    let k = s.previous in
-    let l = s.line.now in (
-      writes_last (holding []) (answer_text k l) 10
+    let l = c.before.before.before.before.args.line.now in (
+      writes_last (holding []) (answer_text l) 10
           (c.before.answer-text.ensures
-          ∙ ap (λ (t : Text). writes t (answer_text k l)) c.before.before.new.ensures) c.with.ensures
-          ∙ writes_holding [] (answer_of k l),
-      (whole, (answer_lines, (told, (kept, page)))),
+          ∙ ap (λ (t : Text). writes t (answer_text l)) c.before.before.new.ensures) c.with.ensures
+          ∙ writes_holding [] (answer_of l),
+      (whole, (answer_lines, (told, page))),
     )
 
 pub answer_spec : {M : Type 1} → statement M

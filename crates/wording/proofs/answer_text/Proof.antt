@@ -1,94 +1,119 @@
--- What is printed to a line, by what it is. Assumes nothing.
-use borrow.Author.Rules.{rules}
+-- What a line is, asked in order, and what is printed to it. Assumes nothing.
+use Prim.Native.Nat.{ℕ, ◌<◌}
+use native.Mathlib.Omega.{arith}
+use mathlib.Core.Bool.{false}
+use mathlib.Core.List.{List}
 use mathlib.Core.Path.{◌≡◌, sym, ap, ◌∙◌}
+use lib.ListN.{length}
 use Rattle.text.specs.Text.{writes}
-use Rattle.text.specs.declared.Text.{Text}
-use Rattle.wording.specs.declared.Kind.{Kind}
-use Rattle.wording.specs.Wording.{text_by, answer_text}
-use Rattle.wording.proofs.WordingLaws.{station_short}
+use Rattle.text.proofs.TextLaws.{joined}
+use Rattle.machine.specs.Calls.{chars}
+use Rattle.wording.specs.Stations.{is_station}
+use Rattle.wording.proofs.WordingLaws.{overlong_is, station_is, block_is, sums_are, words_are}
+use borrow.Author.Rules.{rules}
 use Rattle.wording.proofs.answer_text.Statement.{statement}
 use Rattle.wording.proofs.answer_text.Tie as tie
-
-abbrev start : tie.After-kind-of → tie.Start
-start w = w.before.before
-
--- What is printed goes by the kind that was found.
-by_kind : (w : tie.After-kind-of) (k : Kind) {r : Text} → w.kind-of.result ≡ k
-    → r ≡ writes (start w).args.text (text_by k (start w).args.previous (start w).args.line.now)
-    → r ≡ writes (start w).args.text (answer_text (start w).args.previous (start w).args.line.now)
-unfolding answer_text
-by_kind w k e q =
-    let s = (start w).args in
-    q
-    ∙ ap (λ (x : Kind). writes s.text (text_by x s.previous s.line.now)) (sym e ∙ w.kind-of.ensures)
-
-kind_of_requires : tie.Need-kind-of-requires
-kind_of_requires c κs = search rules
-
-enum_told : tie.Need-enum-told
-enum_told c = search rules
 
 overlong_requires : tie.Need-overlong-requires
 overlong_requires c κs = search rules
 
-enum_told_2 : tie.Need-enum-told-2
-enum_told_2 c = search rules
+returns : tie.Need-returns
+returns c =
+    let s = c.before.before.before.args in
+    c.overlong.ensures
+    ∙ ap (λ (x : List ℕ). writes s.text x) (sym (overlong_is s.line.now (omega (arith, c.before.if1.true))))
+
+is_station_requires : tie.Need-is-station-requires
+is_station_requires c κs = search rules
 
 station_requires : tie.Need-station-requires
-station_requires c κs =
-    let w = c.before.before in
-    station_short (start w).args.line.now (sym w.kind-of.ensures ∙ c.enum-told2.given.1)
+station_requires c κs = search rules
 
-enum_told_3 : tie.Need-enum-told-3
-enum_told_3 c = search rules
+returns_2 : tie.Need-returns-2
+returns_2 c =
+    let s = c.before.before.before.before.before.args in
+    c.station.ensures
+    ∙ ap (λ (x : List ℕ). writes s.text x)
+    (sym (station_is s.line.now (omega (arith, c.before.before.before.if1.false))
+    (sym c.before.before.is-station.ensures ∙ c.before.if2.true)))
+
+-- Past the second test: the line, that it is short, and that it is no command.
+abbrev line2 : tie.Else2 → List ℕ
+line2 f = f.before.before.before.before.args.line.now
+
+short2 : (f : tie.Else2) → length (line2 f) < 100
+short2 f = omega (arith, f.before.before.if1.false)
+
+none2 : (f : tie.Else2) → is_station (line2 f) ≡ false
+none2 f = sym f.before.is-station.ensures ∙ f.if2.false
+
+is_block_requires : tie.Need-is-block-requires
+is_block_requires c κs = search rules
 
 block_requires : tie.Need-block-requires
 block_requires c κs = search rules
 
-enum_told_4 : tie.Need-enum-told-4
-enum_told_4 c = search rules
+returns_3 : tie.Need-returns-3
+returns_3 c =
+    let f = c.before.before.before in
+    c.block.ensures.0
+    ∙ ap (λ (x : List ℕ). writes f.before.before.before.before.args.text x)
+    (sym (block_is (line2 f) (short2 f) (none2 f) (sym c.before.before.is_Block.ensures ∙ c.before.if3.true)))
 
-told_requires : tie.Need-told-requires
-told_requires c κs = search rules
+are_sums_requires : tie.Need-are-sums-requires
+are_sums_requires c κs = search rules
 
-enum_told_5 : tie.Need-enum-told-5
-enum_told_5 c = search rules
+slice_aggregate_characters : tie.Need-slice-aggregate-characters
+slice_aggregate_characters c = search rules
+
+characters_requires : tie.Need-characters-requires
+characters_requires c κs = search rules
+
+characters_requires_2 : tie.Need-characters-requires-2
+characters_requires_2 c κs = search rules
+
+returns_4 : tie.Need-returns-4
+returns_4 c =
+    let w = c.before.before.before in
+    let g = w.before.before in
+    let f = g.before.before in
+    let t = f.before.before.before.before.args.text in
+    joined t (chars "pulses ") (line2 f) c.before.characters.ensures c.characters2.ensures
+    ∙ ap (λ (x : List ℕ). writes t x)
+    (sym (sums_are (line2 f) (short2 f) (none2 f)
+    (sym g.before.is_Block.ensures ∙ g.if3.false)
+    (sym w.before.are-sums.ensures ∙ w.if4.true)))
 
 words_requires : tie.Need-words-requires
 words_requires c κs = search rules
 
-returns : tie.Need-returns
-returns c = by_kind c.before.before.before _ c.before.enum_told.given.1 c.overlong.ensures
-
-returns_2 : tie.Need-returns-2
-returns_2 c = by_kind c.before.before.before _ c.before.enum-told2.given.1 c.station.ensures
-
-returns_3 : tie.Need-returns-3
-returns_3 c = by_kind c.before.before.before _ c.before.enum-told3.given.1 c.block.ensures.0
-
-returns_4 : tie.Need-returns-4
-returns_4 c = by_kind c.before.before.before _ c.before.enum-told4.given.1 c.told.ensures
-
 returns_5 : tie.Need-returns-5
-returns_5 c = by_kind c.before.before.before _ c.before.enum-told5.given.1 c.words.ensures.0
+returns_5 c =
+    let w = c.before in
+    let g = w.before.before in
+    let f = g.before.before in
+    c.words.ensures.0
+    ∙ ap (λ (x : List ℕ). writes f.before.before.before.before.args.text x)
+    (sym (words_are (line2 f) (short2 f) (none2 f)
+    (sym g.before.is_Block.ensures ∙ g.if3.false)
+    (sym w.before.are-sums.ensures ∙ w.if4.false)))
 
 pub answer_text_spec : {M : Type 1} → statement M
 answer_text_spec =
     tie.close
     (tie.spec
-    kind_of_requires
-    enum_told
     overlong_requires
-    enum_told_2
-    station_requires
-    enum_told_3
-    block_requires
-    enum_told_4
-    told_requires
-    enum_told_5
-    words_requires
     returns
+    is_station_requires
+    station_requires
     returns_2
+    is_block_requires
+    block_requires
     returns_3
+    are_sums_requires
+    slice_aggregate_characters
+    characters_requires
+    characters_requires_2
     returns_4
+    words_requires
     returns_5)

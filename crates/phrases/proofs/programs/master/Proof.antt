@@ -38,7 +38,7 @@ returns c =
     let p = c.before.before.before in
     let w = p.before.before in
     let s = w.before.before.before.args in
-    let axis = p.pick-master.ensures.0 ∙ ap (master_of s.previous) p.before.distances.ensures in
+    let axis = p.pick-master.ensures.0 ∙ ap master_of p.before.distances.ensures in
     joined s.text (chars "master ") _ c.before.characters.ensures
     (c.decimal.ensures ∙ ap (λ (n : ℕ). writes c.before.characters.result (decimal_of n)) axis)
     ∙ ap (writes s.text)

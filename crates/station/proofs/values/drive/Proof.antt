@@ -1,6 +1,5 @@
 -- A distance beyond the most turns the move away; then the five distances and the start. Assumes nothing.
 use borrow.Author.Rules.{rules}
-use Prim.Native.Nat.{ℕ}
 use mathlib.Core.Bool.{false}
 use mathlib.Core.List.{[], ◌∷◌}
 use mathlib.Core.Path.{ap, ◌∙◌}
@@ -12,9 +11,9 @@ use Rattle.station.specs.Station.{asks}
 use Rattle.station.proofs.values.drive.Statement.{statement}
 use Rattle.station.proofs.values.drive.Tie as tie
 
--- Six command values, the last by the master that is passed on.
-abbrev made : Request → Request → Request → Request → Request → Request → ℕ → Converted
-made a b c d e f k = record { number = 0; count = 6; requests = a ∷ b ∷ c ∷ d ∷ e ∷ f ∷ []; master = k }
+-- Six command values.
+abbrev made : Request → Request → Request → Request → Request → Request → Converted
+made a b c d e f = record { number = 0; count = 6; requests = a ∷ b ∷ c ∷ d ∷ e ∷ f ∷ [] }
 
 refused_requires : tie.Need-refused-requires
 refused_requires c κs = search rules
@@ -62,7 +61,7 @@ returns_3 c =
     on_ge 524287 _ _ _ _ s.before.before.if1.false
     (on_ge 524287 _ _ _ _ s.if2.false
     (λ i. made (d1.distance.ensures i) (d2.distance2.ensures i) (d3.distance3.ensures i)
-    (d4.distance4.ensures i) (d5.distance5.ensures i) (e i) (m.pick-master.ensures.0 i)))
+    (d4.distance4.ensures i) (d5.distance5.ensures i) (e i)))
 
 pub drive_spec : {M : Type 1} → statement M
 drive_spec =

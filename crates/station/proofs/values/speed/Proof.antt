@@ -16,8 +16,8 @@ refused_requires_2 c κs = search rules
 returns_2 : tie.Need-returns-2
 returns_2 c = let e = c.refused2.ensures in search picks
 
-mul_t4 : tie.Need-overflow-mul-t4
-mul_t4 c = search rules
+mul_t3 : tie.Need-overflow-mul-t3
+mul_t3 c = search rules
 
 one_requires : tie.Need-one-requires
 one_requires c κs = search rules
@@ -28,4 +28,4 @@ returns_3 c = let e = c.one.ensures in search picks
 pub speed_spec : {M : Type 1} → statement M
 speed_spec =
     tie.close
-    (tie.spec refused_requires returns refused_requires_2 returns_2 mul_t4 one_requires returns_3)
+    (tie.spec refused_requires returns refused_requires_2 returns_2 mul_t3 one_requires returns_3)

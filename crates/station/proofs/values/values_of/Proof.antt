@@ -30,24 +30,16 @@ one_requires : tie.Need-one-requires
 one_requires c κs = search rules
 
 returns : tie.Need-returns
-returns c =
-    let p = c.before.before.before.args.previous in
-    c.refused.ensures ∙ sym (ap (held_answer p) c.before.enum_told.given.1)
+returns c = c.refused.ensures ∙ sym (ap held_answer c.before.enum_told.given.1)
 
 returns_2 : tie.Need-returns-2
-returns_2 c =
-    let p = c.before.before.before.before.args.previous in
-    c.speed.ensures ∙ sym (ap (held_answer p) c.before.before.form.given.1)
+returns_2 c = c.speed.ensures ∙ sym (ap held_answer c.before.before.form.given.1)
 
 returns_3 : tie.Need-returns-3
-returns_3 c =
-    let p = c.before.before.before.before.args.previous in
-    c.drive.ensures ∙ sym (ap (held_answer p) c.before.before.form2.given.1)
+returns_3 c = c.drive.ensures ∙ sym (ap held_answer c.before.before.form2.given.1)
 
 returns_4 : tie.Need-returns-4
-returns_4 c =
-    let p = c.before.before.before.args.previous in
-    c.one.ensures ∙ sym (ap (held_answer p) c.before.enum-told2.given.1)
+returns_4 c = c.one.ensures ∙ sym (ap held_answer c.before.enum-told2.given.1)
 
 pub values_of_spec : {M : Type 1} → statement M
 values_of_spec =

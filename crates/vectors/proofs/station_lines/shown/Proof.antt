@@ -21,15 +21,6 @@ with_requires c κs = search rules
 hex_requires : tie.Need-hex-requires invariant_loop decreases_loop
 hex_requires c κs = search rules
 
-with_requires_2 : tie.Need-with-requires-2 invariant_loop decreases_loop
-with_requires_2 c κs = search rules
-
-cast_hex : tie.Need-overflow-cast-hex invariant_loop decreases_loop
-cast_hex c = search rules
-
-hex_requires_2 : tie.Need-hex-requires-2 invariant_loop decreases_loop
-hex_requires_2 c κs = search rules
-
 loop_holds : tie.Need-loop-init invariant_loop decreases_loop
 loop_holds c = search rules
 
@@ -67,9 +58,6 @@ shown_spec =
     number_requires
     with_requires
     hex_requires
-    with_requires_2
-    cast_hex
-    hex_requires_2
     loop_holds
     mul_request
     array_copy_out_request

@@ -22,8 +22,7 @@ answer_requires c κs = search rules
 
 returns : tie.Need-returns
 returns c =
-    let s = c.before.before.before.before.before.before.args in
-    c.answer.ensures.0 ∙ ap (λ (l : List ℕ). holding (answer_of s.self.master l)) c.before.front.ensures
+    c.answer.ensures.0 ∙ ap (λ (l : List ℕ). holding (answer_of l)) c.before.front.ensures
 
 pub answered_spec : {M : Type 1} → statement M
 answered_spec =

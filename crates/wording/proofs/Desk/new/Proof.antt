@@ -1,5 +1,5 @@
--- A desk with no character and the previous master of a fresh host. Assumes nothing.
-use Rattle.wording.proofs.WholeLaws.{answers_are, passes_on}
+-- A desk with no character. Assumes nothing.
+use Rattle.wording.proofs.WholeLaws.{answers_are}
 use borrow.Author.Rules.{rules}
 use Rattle.wording.proofs.Desk.new.Statement.{statement}
 use Rattle.wording.proofs.Desk.new.Tie as tie
@@ -8,7 +8,7 @@ new_requires : tie.Need-new-requires
 new_requires c κs = search rules
 
 returns : tie.Need-returns
-returns c = (λ i. record { line = c.new.ensures i; master = 0 }, (answers_are, passes_on))
+returns c = (λ i. record { line = c.new.ensures i }, answers_are)
 
 pub new_spec : {M : Type 1} → statement M
 new_spec = tie.close (tie.spec new_requires returns)
