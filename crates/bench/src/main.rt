@@ -2,6 +2,8 @@
 // read print, at once, before it reads on. What the bytes do and print is the proved work of `session` and `console`.
 // Its stored test is the session that paper 01 prints. Assumes nothing beyond the contracts of the C functions that
 // read and write.
+#![tactic(auto)]
+
 ghost use Rattle.session.specs.Session.{Running};
 
 use block::REPLY_ROOM;
@@ -9,7 +11,7 @@ use libc::{STDERR_FILENO, STDIN_FILENO, STDOUT_FILENO};
 use session::Session;
 
 // What is to be done after a read.
-#[derive(Drop)]
+#[derive(Clone, Copy)]
 enum Next {
     // Read on.
     Read,

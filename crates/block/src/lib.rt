@@ -2,6 +2,8 @@
 // the front part of the buffer that holds a reply.
 // Every public function is total: it has no premise, and states its result and the whole buffer for every input.
 // Assumes nothing.
+#![tactic(auto)]
+
 ghost use Rattle.std.specs.Prelude.{◌≡◌, ◌+◌, ◌≤◌, length};
 ghost use Rattle.block.specs.Block.{block_of, row_of, laid, laid_length, over, put, front_of, length_with};
 

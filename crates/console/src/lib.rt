@@ -2,6 +2,8 @@
 // in order, and what they print is written at once. What the bytes do is the proved work of `session`; here what they
 // print is put into a buffer, one behind another, and written out. All that is handed to the call that writes is
 // stated. Assumes nothing beyond the contract of the C function that writes.
+#![tactic(auto)]
+
 ghost use Rattle.std.specs.Prelude.{◌+◌, ◌≤◌, ◌<◌, ◌≡◌, length, take};
 ghost use Rattle.session.specs.Lines.{after, printed_by};
 ghost use Rattle.session.specs.Session.{taken, held_bench, Running, Runs};

@@ -2,6 +2,8 @@
 // once, a tick with its input word and its lent reply buffer, readings, and a copy without a half-received line. Only
 // power-on and calls can make one. Each entry's answer is that of the crate `machine`, held as specs/Held.antt says;
 // the only premise is that the controller is reachable. Assumes nothing.
+#![tactic(auto)]
+
 ghost use Rattle.std.specs.Prelude.{◌≡◌};
 ghost use Rattle.block.specs.Block.{front_of};
 ghost use Rattle.machine.specs.Carry.{CarryOn};

@@ -9,7 +9,7 @@ use reply::{Position, Travel};
 
 // Speed in units of 0.25 Hz, slope in units of 1.25 kHz/s, dwell in ms, polarity, the two input settings, watch.
 #[repr(C)]
-#[derive(Drop)]
+#[derive(Clone, Copy)]
 pub struct Settings {
     pub speed: u32,
     pub slope: u32,
@@ -22,7 +22,7 @@ pub struct Settings {
 
 // A distance and a direction for each axis; true is minus.
 #[repr(C)]
-#[derive(Drop)]
+#[derive(Clone, Copy)]
 pub struct Plan {
     pub distances: [u32; 5],
     pub minus: [bool; 5],
@@ -33,7 +33,7 @@ pub struct Plan {
 // costs a call from firmware 10 ns. `master` is the master, and 256 more once a distance line was accepted since the
 // move began (paper 02, 6/14): a flag of its own cost a tick of firmware 3 ns.
 #[repr(C)]
-#[derive(Drop)]
+#[derive(Clone, Copy)]
 pub struct Run {
     pub length: u32,
     pub gone: u32,
@@ -48,7 +48,7 @@ pub struct Run {
 
 // What each axis counts. A remainder is what the master's travel times the distance leaves when divided by the length.
 #[repr(C)]
-#[derive(Drop)]
+#[derive(Clone, Copy)]
 pub struct Counters {
     pub travels: [Travel; 5],
     pub remainders: [u32; 5],
@@ -58,7 +58,7 @@ pub struct Counters {
 // The ticks of the dwell that are left, and the waiting start: 0, or its master and 1; and the ticks until the block of
 // a W line, 0 where none is to come.
 #[repr(C)]
-#[derive(Drop)]
+#[derive(Clone, Copy)]
 pub struct Pause {
     pub left: u32,
     pub waiting: u16,
@@ -67,7 +67,7 @@ pub struct Pause {
 
 // Status bits 2, 3, 5 and 6.
 #[repr(C)]
-#[derive(Drop)]
+#[derive(Clone, Copy)]
 pub struct Flags {
     pub wrong: bool,
     pub stopped: bool,
@@ -77,14 +77,14 @@ pub struct Flags {
 
 // The output words by their parts, kept ready.
 #[repr(C)]
-#[derive(Drop)]
+#[derive(Clone, Copy)]
 pub struct Wires {
     pub general: u32,
     pub cells: Cells,
 }
 
 #[repr(C)]
-#[derive(Drop)]
+#[derive(Clone, Copy)]
 pub struct Hot {
     pub plan: Plan,
     pub counters: Counters,
@@ -98,7 +98,7 @@ pub struct Hot {
 
 // What only bytes alter. The identification is the latest W line's, if that has one: no enum crosses to firmware.
 #[repr(C)]
-#[derive(Drop)]
+#[derive(Clone, Copy)]
 pub struct Cold {
     pub settings: Settings,
     pub next: Plan,
@@ -110,7 +110,7 @@ pub struct Cold {
 
 // Its fields are the crate's own, so that only power-on and calls can make one.
 #[repr(C)]
-#[derive(Drop)]
+#[derive(Clone, Copy)]
 pub struct Controller {
     pub(crate) hot: Hot,
     pub(crate) cold: Cold,

@@ -1,12 +1,14 @@
 // The program `desk`, the host end for people (docs/PROTOCOL.md, "From words"): reads standard input to its end and
 // answers each line at once. What it answers is the proved work of `wording`. Assumes nothing beyond the contracts of
 // the C functions that read and write.
+#![tactic(auto)]
+
 use libc::{STDERR_FILENO, STDIN_FILENO, STDOUT_FILENO};
 use text::Text;
 use wording::Desk;
 
 // What is to be done after a read.
-#[derive(Drop)]
+#[derive(Clone, Copy)]
 enum Next {
     // Read on.
     Read,

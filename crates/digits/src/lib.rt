@@ -1,5 +1,7 @@
 // Hexadecimal digits: one character to and from its value, six to and from a 24-bit number.
 // Every public function is total: it has no premise and states its result for every input. Assumes nothing.
+#![tactic(auto)]
+
 ghost use Rattle.std.specs.Prelude.{◌≡◌};
 ghost use Rattle.digits.specs.Digits.{five_digits, digit_of, capital_of, six_of, join_of, number_of, Under};
 ghost use Rattle.digits.specs.Characters.{OneToOne};
@@ -37,7 +39,7 @@ pub enum Number {
 }
 
 // The identification of a line or a block (chapter 9): none, or the very character.
-#[derive(Drop)]
+#[derive(Clone, Copy)]
 pub enum Ident {
     Absent,
     Given(u8),

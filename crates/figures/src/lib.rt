@@ -2,6 +2,8 @@
 // turned away by 21, a setting as its P command, and the pair of figures that a controller's settings show.
 // Figures go out for every u32 and come in for every f64, with no premise; the pair's is that its controller is
 // reachable. Assumes nothing.
+#![tactic(auto)]
+
 ghost use Rattle.std.specs.Prelude.{◌≡◌, ℕ, ◌*◌};
 ghost use Rattle.line.specs.Ranges.{top_speed, top_slope};
 ghost use Rattle.controller.specs.Reach.{Reachable, Made};

@@ -3,6 +3,8 @@
 // on, but for what speaks of the machine alone and for computed examples; include/temixohuel.h declares them. The
 // premise is that the controller is reachable, and power-on, byte and tick promise this of what they hand back; the
 // journal's two have none. Assumes nothing.
+#![tactic(auto)]
+
 ghost use Rattle.std.specs.Prelude.{List, map, ◌≡◌};
 ghost use Rattle.laws.specs.Axes.{each};
 ghost use Rattle.reply.specs.declared.readings.Position.{Position};

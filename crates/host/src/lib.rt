@@ -2,6 +2,8 @@
 // picker; the line that host tools send first (paper 02, 2/14).
 // Every public function is total: it has no premise, and states its result and the whole buffer for every input.
 // Assumes nothing.
+#![tactic(auto)]
+
 ghost use Rattle.std.specs.Prelude.{◌≤◌, ◌≡◌, length};
 ghost use Rattle.block.specs.Block.{over};
 ghost use Rattle.host.specs.Master.{none_longer, master_of, Longest};
@@ -28,7 +30,7 @@ mod content;
 const LINE_ROOM: usize = 10;
 
 // What the host asks for: a command, whether its line is silent, and its identification.
-#[derive(Drop)]
+#[derive(Clone, Copy)]
 pub struct Request {
     pub silent: bool,
     pub command: Command,

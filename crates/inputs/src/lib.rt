@@ -1,5 +1,7 @@
 // What the inputs say under the low-ON and high-ON settings (paper 01, "Stops"; 6.6 to 6.9): limits, emergency, sensor.
 // Every public function is total: it has no premise and states its result for every input. Assumes nothing.
+#![tactic(auto)]
+
 ghost use Rattle.std.specs.Prelude.{◌≡◌, false, get_or};
 ghost use Rattle.inputs.specs.Inputs.{low_at, high_at, blocked_at, some_blocked, active_at};
 

@@ -1,6 +1,8 @@
 // The journal (paper 02, 1/14): the entry of each move that ended, appended in a lent buffer and read back.
 // Both functions are total: they have no premise, and state their answer and the whole buffer for every input.
 // Assumes nothing.
+#![tactic(auto)]
+
 ghost use Rattle.std.specs.Prelude.{◌≡◌};
 ghost use Rattle.journal.specs.Journal.{appended, append_buffer, nothing_at, read_at};
 ghost use Rattle.journal.specs.Journal.{RoundTrip, OneSpelling};

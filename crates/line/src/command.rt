@@ -12,7 +12,7 @@ pub const TOP_SPEED: u32 = 1000000;
 pub const TOP_SLOPE: u32 = 4095;
 
 // What is read.
-#[derive(Drop)]
+#[derive(Clone, Copy)]
 pub enum Reading {
     // Q 0-4: an axis's travel.
     Travel(u8),
@@ -27,7 +27,7 @@ pub enum Reading {
 }
 
 // What a line asks for.
-#[derive(Drop)]
+#[derive(Clone, Copy)]
 pub enum Command {
     // P 0-4: the next move's distance and direction of an axis.
     Distance { axis: u8, minus: bool, length: u32 },

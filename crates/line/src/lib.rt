@@ -1,6 +1,8 @@
 // A received line judged (paper 01, "Lines" and "Turned away" 4 to 10; chapters 7 and 9): from its characters alone to
 // a command, or to the number that turns it away. Beside it what others ask of commands and of five distances.
 // Every public function is total: it has no premise and states its result for every input. Assumes nothing.
+#![tactic(auto)]
+
 ghost use Rattle.std.specs.Prelude.{◌-◌, min, not, ◌≡◌, take};
 ghost use Rattle.digits.specs.Digits.{six_digits, digit_of, number_of, Under};
 ghost use Rattle.digits.specs.Characters.{digit_characters, is_one};

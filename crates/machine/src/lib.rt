@@ -1,1 +1,2 @@
 // The machine of paper 01: definitions and laws only.
+#![tactic(auto)]

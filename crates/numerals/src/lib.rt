@@ -1,5 +1,7 @@
 // Numbers as people write them: decimal or hexadecimal, with a sign, and with a decimal fraction.
 // Every public function is total: it has no premise and states its result for every input. Assumes nothing.
+#![tactic(auto)]
+
 ghost use Rattle.std.specs.Prelude.{◌≤◌, min, ◌≡◌};
 ghost use Rattle.numerals.specs.Numerals.{
   largest,

@@ -1,6 +1,8 @@
 // The output words of a tick by their parts (paper 01, "Lines of output"; chapter 5): what the general outputs add, and
 // what the lines of each axis add at rest and in the first half of a tick in which the axis pulses.
 // Every public function is total: it has no premise and states its result for every input. Assumes nothing.
+#![tactic(auto)]
+
 ghost use Rattle.std.specs.Prelude.{◌≤◌, ◌≡◌, true, false, cond, pos, get_or};
 ghost use Rattle.laws.specs.Axes.{each, directed};
 ghost use Rattle.laws.specs.Bits.{bit};
@@ -9,7 +11,7 @@ ghost use Rattle.outputs.specs.Outputs.{xor, has_direction, pair_of, inverses_of
 
 // What each axis adds to a word, at rest and while it pulses, and what all five add at rest.
 #[repr(C)]
-#[derive(Drop)]
+#[derive(Clone, Copy)]
 pub struct Cells {
     pub rests: [u32; 5],
     pub fires: [u32; 5],

@@ -2,6 +2,8 @@
 // that the writer gives; `opening`, `master`, `ticks` and `trial` have their own answers; anything else has the nearest
 // form.
 // Every public function is total: it has no premise and states its result for every input. Assumes nothing.
+#![tactic(auto)]
+
 ghost use Rattle.std.specs.Prelude.{◌≡◌};
 ghost use Rattle.text.specs.Text.{writes};
 ghost use Rattle.phrases.specs.Phrases.{

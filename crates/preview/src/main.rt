@@ -2,6 +2,8 @@
 // tells in words what the bench would print to each line, and shows what a trial would leave. What is answered is the
 // proved work of `session`, `wording` and `screen`. Assumes nothing beyond the contracts of the C functions that read
 // and write.
+#![tactic(auto)]
+
 ghost use Rattle.session.specs.Session.{Running};
 
 use crate::passing::Preview;
@@ -11,7 +13,7 @@ mod passing;
 mod telling;
 
 // What is to be done after a read.
-#[derive(Drop)]
+#[derive(Clone, Copy)]
 enum Next {
     // Read on.
     Read,

@@ -14,7 +14,7 @@ const LETTER: u8 = 68;
 
 // The bench, the desk that tells what it prints, the line that begins with D as far as it has come, of which a text
 // holds more than it needs to be over-long, and whether the next byte begins a line.
-#[derive(Drop)]
+#[derive(Clone, Copy)]
 pub(crate) struct Preview {
     pub(crate) session: Session,
     desk: Desk,

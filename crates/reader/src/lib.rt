@@ -1,5 +1,7 @@
 // The host's reader of one reply block (paper 01, "Lines", Replies; "Turned away" 20).
 // Every public function is total: it has no premise and states its result for every input. Assumes nothing.
+#![tactic(auto)]
+
 ghost use Rattle.std.specs.Prelude.{◌≡◌};
 ghost use Rattle.reader.specs.Blocks.{BlocksRead};
 ghost use Rattle.reader.specs.ReadBack.{RepliesRead};

@@ -1,6 +1,8 @@
 // Replies to words (docs/PROTOCOL.md, "From words"): which lines are reply blocks, and what the desk prints to one.
 // What a block says is the work of `reader`.
 // Every public function is total: it has no premise and states its result for every input. Assumes nothing.
+#![tactic(auto)]
+
 ghost use Rattle.std.specs.Prelude.{◌∷◌, [], ◌++◌, ◌≡◌, get_or};
 ghost use Rattle.digits.specs.Digits.{digit_of, end_byte};
 ghost use Rattle.reader.specs.Reader.{figures_of, read_of};

@@ -2,6 +2,8 @@
 // line may have any length: its first ten characters tell all that is asked of it. Byte 0D ends the line, all other 255
 // values are characters.
 // Every public function is total: it has no premise and states its result for every input. Assumes nothing.
+#![tactic(auto)]
+
 ghost use Rattle.std.specs.Prelude.{◌≡◌, [], length};
 ghost use Rattle.receiver.specs.Receiver.{holding, push_of, taken_of, receive, held_taken, heard_of, Holding};
 ghost use Rattle.receiver.specs.Receiver.{before_end, push_all, gathered_of, held_gathered};
@@ -12,7 +14,7 @@ use line::Judged;
 // The line that is being received: its first ten characters, zeros after them, and their count. Twelve bytes: eleven
 // would be copied in parts that overlap, and a tick would wait for them.
 #[repr(C)]
-#[derive(Drop)]
+#[derive(Clone, Copy)]
 pub struct Receiver {
     chars: [u8; 10],
     count: u16,

@@ -1,6 +1,8 @@
 // Lists of calls played to a fresh controller, all their answers in one digest: two machines that answer alike have
 // the same digest for every list. The entry is total, for every switch and every list of bytes, and answers the digest
 // of the machine of the crate `machine` (specs/Replay.antt). Assumes nothing.
+#![tactic(auto)]
+
 ghost use Rattle.std.specs.Prelude.{◌+◌, ◌%◌, ◌≤◌, cond, ◌||◌, ◌≡◌, eqb, length};
 ghost use Rattle.controller.specs.Reach.{Reachable};
 ghost use Rattle.replay.specs.Replay.{held_seen, Plays, begun, called, word_at, replayed};

@@ -1,6 +1,8 @@
 // The replies to lines (paper 01, "Lines", Replies; 7.3 to 7.9), written at the front of a lent buffer.
 // Every public function is total: it has no premise, and states its result and the whole buffer for every input.
 // Assumes nothing.
+#![tactic(auto)]
+
 ghost use Rattle.std.specs.Prelude.{◌≡◌};
 ghost use Rattle.block.specs.Block.{laid, laid_length};
 ghost use Rattle.reply.specs.Reply.{

@@ -6,12 +6,12 @@ use digits::TOP_BIT;
 
 // The pulses that an axis has sent in the latest move. It has no sign.
 #[repr(C)]
-#[derive(Drop)]
+#[derive(Clone, Copy)]
 pub struct Travel(pub u32);
 
 // The signed pulses of an axis since power-on or the last position reset, with 524,288 added.
 #[repr(C)]
-#[derive(Drop)]
+#[derive(Clone, Copy)]
 pub struct Position(pub u32);
 
 impl Position {
@@ -25,7 +25,7 @@ impl Position {
 }
 
 // What replies are made from.
-#[derive(Drop)]
+#[derive(Clone, Copy)]
 pub struct Readings {
     pub travels: [Travel; 5],
     pub positions: [Position; 5],

@@ -1,6 +1,8 @@
 // A dose on screen first (paper 02, 5/14; docs/PROTOCOL.md, "A dose on screen first"): the line that asks for a trial,
 // and what is shown of one. What a trial leaves is the work of `trial`. The only premise is that the controller that a
 // trial is made on is reachable; each result is stated for every other value. Assumes nothing.
+#![tactic(auto)]
+
 ghost use Rattle.std.specs.Prelude.{◌≤◌, ◌≡◌, length};
 ghost use Rattle.controller.specs.Reach.{Reachable, Made};
 ghost use Rattle.text.specs.Text.{holding, writes};

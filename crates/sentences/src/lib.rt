@@ -1,6 +1,8 @@
 // What the desk says in fixed words (docs/PROTOCOL.md, "From words"): the sentence of each number, what a status says,
 // the words that begin a form, and the nearest form. Every public function is total: it has no premise and states its
 // result for every input. Assumes nothing.
+#![tactic(auto)]
+
 ghost use Rattle.std.specs.Prelude.{◌≡◌};
 ghost use Rattle.text.specs.Text.{writes};
 ghost use Rattle.sentences.specs.Sentences.{

@@ -8,7 +8,7 @@ use crate::asked::Asked;
 
 // The first 17 characters, zeros after them, and their count: one more than the form has. A public type, since callers
 // hold sessions within values of their own; no function of it is public.
-#[derive(Drop)]
+#[derive(Clone, Copy)]
 pub struct Kept {
     chars: [u8; 17],
     count: u8,

@@ -2,6 +2,8 @@
 // values and lent buffers: lines that begin with T run ticks and print the sums of the signed pulses, before them the
 // block of a W line if it comes in these ticks; other lines go in and their replies are printed. The only premise is
 // that the session is one that `new` and the calls after it made. Assumes nothing.
+#![tactic(auto)]
+
 ghost use Rattle.std.specs.Prelude.{◌≤◌, [], ◌∷◌, ◌++◌, ◌≡◌, length};
 ghost use Rattle.session.specs.Kept.{Keeping};
 ghost use Rattle.session.specs.Lines.{Lines};

@@ -8,7 +8,7 @@ use crate::kept::Kept;
 use controller::Controller;
 
 // Where the input stands. A public type, since callers hold sessions within values of their own.
-#[derive(Drop)]
+#[derive(Clone, Copy)]
 pub enum Place {
     // Before the first character of a line.
     Start,
@@ -19,7 +19,7 @@ pub enum Place {
 }
 
 // The controller, the characters of a line that begins with T, and where the input stands.
-#[derive(Drop)]
+#[derive(Clone, Copy)]
 pub struct Session {
     pub(crate) controller: Controller,
     pub(crate) kept: Kept,

@@ -1,5 +1,7 @@
 // The converter (paper 02, 8/14): a command of an MD5230D station as command values for the writer.
 // Every public function is total: it has no premise and states its result for every input. Assumes nothing.
+#![tactic(auto)]
+
 ghost use Rattle.std.specs.Prelude.{◌≡◌};
 ghost use Rattle.station.specs.Station.{convert_of};
 ghost use Rattle.station.specs.Spelled.{Spelled};

@@ -1,5 +1,7 @@
 // Texts for people: rows of bytes taken apart at a mark and compared, and a text under way.
 // Every public function is total: it has no premise and states its result for every input. Assumes nothing.
+#![tactic(auto)]
+
 ghost use Rattle.std.specs.Prelude.{[], ◌≡◌};
 ghost use Rattle.digits.specs.Digits.{six_of};
 ghost use Rattle.text.specs.Decimal.{decimal_of, sign_text};
@@ -18,7 +20,7 @@ pub const FEED: u8 = 10;
 pub const SPACE: u8 = 32;
 
 // A text: its bytes, zeros after them, and their count. From 250 bytes on no more are taken.
-#[derive(Drop)]
+#[derive(Clone, Copy)]
 pub struct Text {
     pub chars: [u8; ROOM],
     pub count: u8,

@@ -1,6 +1,8 @@
 // A dose tried without wine (paper 02, 5/14): what a plain start with this master and so many ticks with this input
 // word would leave. All of it is done on a copy, with a reply buffer of its own: the controller is given by value and
 // stays the caller's. The only premise is that it is reachable. Assumes nothing.
+#![tactic(auto)]
+
 ghost use Rattle.std.specs.Prelude.{◌≤◌, ◌≡◌};
 ghost use Rattle.controller.specs.Held.{held_byte};
 ghost use Rattle.controller.specs.Reach.{Reachable, Made};
@@ -25,7 +27,7 @@ pub const LAST_AXIS: u32 = 4;
 // What would be left: five positions and five travels; the tick of the end, counted from 1, or 0 where it is not
 // reached; and the number that turns the trial away, or 0. With a number all else is 0.
 #[repr(C)]
-#[derive(Drop)]
+#[derive(Clone, Copy)]
 pub struct Trial {
     pub positions: [i64; 5],
     pub travels: [Travel; 5],

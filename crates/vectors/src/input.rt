@@ -7,14 +7,14 @@ use crate::{host_end, lists, text};
 const LONGEST: usize = 100;
 
 // Which program runs.
-#[derive(Drop)]
+#[derive(Clone, Copy)]
 pub(crate) enum Program {
     Lists,
     HostEnd,
 }
 
 // The list so far, and the characters of the line so far with their count: one more than the most for a longer line.
-#[derive(Drop)]
+#[derive(Clone, Copy)]
 struct Stand {
     list: List,
     chars: [u8; LONGEST],

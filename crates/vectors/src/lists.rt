@@ -23,7 +23,7 @@ const TICK: u8 = 3;
 const LENT: u8 = 120;
 
 // How many calls are gathered, and the first and the last switch.
-#[derive(Drop)]
+#[derive(Clone, Copy)]
 pub(crate) struct List {
     pub(crate) count: usize,
     pub(crate) first: u8,

@@ -3,6 +3,8 @@
 // read, `-` for standard input. A file's answers come after a line with its name. What is printed is compared with what
 // the reference prints, not proved; every function here is proved safe and ending. Assumes nothing beyond the contracts
 // of the C functions that read, write, open a file and hand out the arguments.
+#![tactic(auto)]
+
 use crate::input::Program;
 use crate::text::Text;
 use libc::{STDIN_FILENO, STDOUT_FILENO};

@@ -1,6 +1,8 @@
 // What the program `desk` does with its input (docs/PROTOCOL.md, "From words"), a byte at a time, on values: each line
 // is answered at once, whatever bytes it has and however long it is.
 // Every public function is total: it has no premise and states its result for every input. Assumes nothing.
+#![tactic(auto)]
+
 ghost use Rattle.std.specs.Prelude.{[], ◌≡◌};
 ghost use Rattle.text.specs.Text.{holding, writes};
 ghost use Rattle.wording.specs.Page.{Page};
@@ -29,7 +31,7 @@ use text::{FEED, SPACE, Text, parts};
 mod stations;
 
 // The characters since the last line feed.
-#[derive(Drop)]
+#[derive(Clone, Copy)]
 pub struct Desk {
     line: Text,
 }
