@@ -1,0 +1,69 @@
+-- As many bytes as there is room for, line by line. The invariant: calls made the session, and the buffer is filled so
+-- far as `Filling` says. The measure is the bytes left. Assumes nothing.
+use native.Mathlib.Omega.{arith}
+use mathlib.Core.Logic.{inl, inr}
+use mathlib.Core.Path.{refl, subst, ◌∙◌}
+use Rattle.console.proofs.RoomLaws.{part_length, part_rest}
+use Rattle.console.proofs.FillLaws.{Lined, filling_none, filling_more, filling_done}
+use Rattle.console.proofs.fill.Goals as goal
+
+pub loop-i-init : goal.loop-i-init
+loop-i-init c =
+    (omega arith, omega arith, refl, c.requires, filling_none c.args.out.now c.args.bytes.now c.args.s)
+
+pub pass_line-passed-requires : goal.pass_line-passed-requires
+pass_line-passed-requires c =
+    record {
+      running = c.loop-i.invariant.3;
+      at_in_bounds = omega (arith, c.loop-i.invariant.1, c.if-out-at-lt-REPLY_ROOM.false);
+    }
+
+pub overflow_add-i : goal.overflow_add-i
+overflow_add-i c =
+    omega (
+      arith,
+      c.pass_line-passed.ensures.length_in_bounds.1.0.0,
+      part_length c.args.bytes.now c.loop-i.i,
+      c.loop-i.invariant.0,
+      c.well-formed.1.1.0.0,
+    )
+
+pub loop-i-smaller : goal.loop-i-smaller
+loop-i-smaller c =
+    let n = part_length c.args.bytes.now c.loop-i.i in
+    omega (
+      arith,
+      c.pass_line-passed.ensures.length_in_bounds.1.0.1 (omega (arith, n, c.loop-i-test.true)),
+      c.pass_line-passed.ensures.length_in_bounds.1.0.0,
+      n,
+      c.loop-i-test.true,
+    )
+
+pub loop-i-preserved : goal.loop-i-preserved
+loop-i-preserved c =
+    (
+      omega (arith, c.pass_line-passed.ensures.length_in_bounds.1.0.0, part_length c.args.bytes.now c.loop-i.i, c.loop-i.invariant.0),
+      omega (arith, c.pass_line-passed.ensures.length_in_bounds.0, c.pass_line-passed.auto.1.0),
+      c.pass_line-passed.auto.1.0 ∙ c.loop-i.invariant.2,
+      c.pass_line-passed.ensures.running_2,
+      filling_more c.args.out.now c.args.bytes.now c.loop-i.session c.loop-i.at c.loop-i.i c.loop-i.out c.args.s c.pass_line-passed.result c.pass_line-passed.new.1.0
+          (omega (arith, c.loop-i.invariant.2, c.if-out-at-lt-REPLY_ROOM.false)) c.loop-i.invariant.4
+          (subst (Lined c.loop-i.session c.loop-i.at c.loop-i.out c.pass_line-passed.new.1.0 c.pass_line-passed.result) (part_rest c.args.bytes.now c.loop-i.i)
+          c.pass_line-passed.ensures.length_in_bounds.1.1),
+    )
+
+pub returns-after-loop-i : goal.returns-after-loop-i
+returns-after-loop-i c =
+    record {
+      running = c.loop-i.invariant.3;
+      runs = filling_done c.args.out.now c.args.bytes.now c.loop-i.session c.loop-i.at c.loop-i.i c.loop-i.out c.args.s c.loop-i.invariant.4
+          (inl c.loop-i-test.false);
+    }
+
+pub returns-then-out-at-lt-REPLY_ROOM : goal.returns-then-out-at-lt-REPLY_ROOM
+returns-then-out-at-lt-REPLY_ROOM c =
+    record {
+      running = c.loop-i.invariant.3;
+      runs = filling_done c.args.out.now c.args.bytes.now c.loop-i.session c.loop-i.at c.loop-i.i c.loop-i.out c.args.s c.loop-i.invariant.4
+          (inr (omega (arith, c.loop-i.invariant.2, c.if-out-at-lt-REPLY_ROOM.true)));
+    }

@@ -1,0 +1,16 @@
+-- As many bytes as there is room for, line by line. The invariant: calls made the session, and the buffer is filled so
+-- far as `Filling` says. The measure is the bytes left. Assumes nothing.
+use Prim.Native.Nat.{◌-◌, ◌≤◌}
+use mathlib.Core.Path.{◌≡◌}
+use lib.ListN.{length, take, drop}
+use Rattle.session.specs.Session.{Running, Runs}
+use Rattle.console.proofs.FillLaws.{Filling}
+use Rattle.console.proofs.fill.Given as goal
+
+abbrev pub invariant-loop-i : goal.invariant-loop-i
+invariant-loop-i l =
+    (l.i ≤ length l.out) × (l.initial.i ≤ length l.initial.at) × (length l.initial.at ≡ length l.initial.out) × Running l.at
+    × Runs l.bytes (Filling l.initial.out l.out l.at l.initial.i l.i l.initial.at (take l.i l.out) (drop l.i l.out))
+
+abbrev pub decreases-loop-i : goal.decreases-loop-i
+decreases-loop-i l = length l.out - l.i

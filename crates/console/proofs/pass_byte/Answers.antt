@@ -1,0 +1,24 @@
+-- One byte of the input. Assumes nothing.
+use native.Mathlib.Omega.{arith}
+use Rattle.console.proofs.RoomLaws.{room_bench, room_stands, room_length}
+use Rattle.console.proofs.pass_byte.Goals as goal
+
+pub overflow_add-result : goal.overflow_add-result
+overflow_add-result c =
+    let k = room_length c.args.s c.args.b c.args.at c.take-taken.result c.take-taken.new.1.0 c.args.out.now
+    c.take-taken.ensures.runs c.requires.1 c.requires.0 c.take-taken.auto.1.0 in
+    record { fits = omega (arith, k) }
+
+pub returns : goal.returns
+returns c =
+    (
+      c.take-taken.ensures.running,
+      (
+        room_length c.args.s c.args.b c.args.at c.take-taken.result c.take-taken.new.1.0 c.args.out.now c.take-taken.ensures.runs c.requires.1
+            c.requires.0 c.take-taken.auto.1.0,
+        (
+          room_bench c.args.s c.args.b c.args.at c.take-taken.result c.take-taken.new.1.0 c.args.out.now c.take-taken.ensures.runs c.requires.1,
+          room_stands c.args.s c.args.b c.args.at c.take-taken.result c.take-taken.new.1.0 c.args.out.now c.take-taken.ensures.runs c.requires.1,
+        ),
+      ),
+    )

@@ -1,0 +1,47 @@
+-- `byte` meets its contract: each return, by the tests and the answers that led there. Assumes nothing.
+use mathlib.Core.Path.{ap}
+use Rattle.machine.specs.Calls.{state}
+use Rattle.machine.proofs.FitLaws.{fits}
+use Rattle.controller.specs.declared.state.Controller.{Controller}
+use Rattle.controller.proofs.EntryByteLaws.{byte_short, byte_judged, heard_number, byte_gathered, byte_lined}
+use Rattle.controller.proofs.ReachLaws.{byte_answers}
+use Rattle.controller.proofs.state.Controller.byte.Goals as goal
+
+pub returns-then-buf-lt-REPLY_ROOM : goal.returns-then-buf-lt-REPLY_ROOM
+returns-then-buf-lt-REPLY_ROOM c =
+    byte_answers c.args.self c.requires c.args.b c.args.buf.now _ _
+    (λ s h e. byte_short (state s h) c.args.b c.args.buf.now (fits s h) c.args.self e c.if-buf-lt-REPLY_ROOM.true)
+
+pub lined-requires : goal.lined-requires
+lined-requires c =
+    let k = c.take-taken.ensures.holding
+    (state c.requires.switch c.requires.history).line (ap (λ (x : Controller). x.cold-1.line) c.requires.made) in (
+      c.if-buf-lt-REPLY_ROOM.false,
+      byte_judged (state c.requires.switch c.requires.history) c.args.b c.args.buf.now (fits c.requires.switch c.requires.history)
+          c.args.self c.requires.made
+          c.if-buf-lt-REPLY_ROOM.false _ k _
+          c.with_line-controller.ensures _ _ _ c.in-Line.is,
+      heard_number (state c.requires.switch c.requires.history) c.args.b c.args.buf.now (fits c.requires.switch c.requires.history)
+          c.args.self c.requires.made
+          c.if-buf-lt-REPLY_ROOM.false _ k _
+          c.with_line-controller.ensures,
+    )
+
+pub returns-in-Character : goal.returns-in-Character
+returns-in-Character c =
+    byte_answers c.args.self c.requires c.args.b c.args.buf.now _ _
+    (λ s h e. byte_gathered (state s h) c.args.b c.args.buf.now (fits s h) c.args.self e
+    c.if-buf-lt-REPLY_ROOM.false _
+    (c.take-taken.ensures.holding (state s h).line
+    (ap (λ (x : Controller). x.cold-1.line) e)) _ c.with_line-controller.ensures
+    c.in-Character.is)
+
+pub returns-in-Line : goal.returns-in-Line
+returns-in-Line c =
+    byte_answers c.args.self c.requires c.args.b c.args.buf.now _ _
+    (λ s h e. byte_lined (state s h) c.args.b c.args.buf.now (fits s h) c.args.self e
+    c.if-buf-lt-REPLY_ROOM.false
+    _ (c.take-taken.ensures.holding (state s h).line (ap (λ (x : Controller). x.cold-1.line) e)) _
+    c.with_line-controller.ensures _ _ _ _ _
+    c.in-Line.is c.lined.ensures.value
+    c.lined.ensures.buf_after)

@@ -1,0 +1,7 @@
+-- `travels` meets its contract: each return, by the tests and the answers that led there. Assumes nothing.
+use mathlib.Core.Path.{sym, ap}
+use Rattle.controller.specs.declared.state.Controller.{Controller}
+use Rattle.controller.proofs.state.Controller.travels.Goals as goal
+
+pub returns : goal.returns
+returns c = λ s h e. ap (λ (x : Controller). x.hot-1.counters.travels) (sym e)

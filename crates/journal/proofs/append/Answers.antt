@@ -1,0 +1,37 @@
+-- The entry at its place, or nothing and the number that refuses it. Assumes nothing.
+use Prim.Native.Nat.{◌+◌}
+use mathlib.Core.Path.{sym, ap, ◌∙◌}
+use lib.ListN.{length}
+use Rattle.block.specs.Block.{put}
+use Rattle.journal.specs.Entries.{spell_all}
+use Rattle.journal.specs.Inner.{refusal_of}
+use Rattle.journal.proofs.AnswerLaws.{accepted, appended_not, appended_at}
+use Rattle.journal.proofs.Examples.{write_examples}
+use Rattle.journal.proofs.RoundTripLaws.{round_trip}
+use Rattle.journal.proofs.append.Goals as goal
+
+pub returns-then-number-ne0 : goal.returns-then-number-ne0
+returns-then-number-ne0 c =
+    let w =
+    appended_not c.args.buf.now c.args.at c.args.entry c.refusal-number.result
+    (c.refusal-number.ensures ∙ ap (refusal_of (length c.args.buf.now) c.args.at) c.Numbers-of.ensures) c.if-number-ne0.true in
+    (w.0, (w.1, (round_trip, write_examples)))
+
+pub write_all-next-requires : goal.write_all-next-requires
+write_all-next-requires c =
+    let w =
+    accepted (length c.args.buf.now) c.args.at c.Numbers-of.result
+    (sym c.refusal-number.ensures ∙ c.if-number-ne0.false) in
+    (w.1, w.0)
+
+pub returns : goal.returns
+returns c =
+    let w =
+    appended_at c.args.buf.now c.args.at c.args.entry
+    (sym (c.refusal-number.ensures ∙ ap (refusal_of (length c.args.buf.now) c.args.at) c.Numbers-of.ensures) ∙ c.if-number-ne0.false) in (
+      (λ j. record { next = (c.write_all-next.ensures.value ∙ ap (λ ns. c.args.at + length (spell_all ns)) c.Numbers-of.ensures) j; number = 0 }) ∙ w.0,
+      (
+        c.write_all-next.ensures.buf_after ∙ ap (λ ns. put c.args.at (spell_all ns) c.args.buf.now) c.Numbers-of.ensures ∙ w.1,
+        (round_trip, write_examples),
+      ),
+    )

@@ -1,0 +1,46 @@
+-- Six words, and each of the five behind the first spells a number. Assumes nothing.
+use Prim.Native.Nat.{ℕ}
+use mathlib.Core.Bool.{Bool, true, false, cond, not}
+use mathlib.Core.Path.{◌≡◌, refl, sym, ◌∙◌}
+use mathlib.Core.List.{List}
+use borrow.Author.Tests.{not-true, not-false}
+use Rattle.laws.proofs.Pick.{on_eq, on_ne, told_true, told_false}
+use Rattle.phrases.specs.Meanings.{words}
+use Rattle.phrases.specs.Phrases.{is_number_at, are_distances}
+use Rattle.phrases.proofs.programs.are_distances.Goals as goal
+
+-- What a test that was met, or was not, makes of the answer.
+yes : {t x b r : Bool} → b ≡ t → not b ≡ false → r ≡ x → r ≡ cond t x false
+yes e h p = told_true _ _ _ _ _ e (not-false _ h) p
+
+no : {t b : Bool} (x : Bool) → b ≡ t → not b ≡ true → false ≡ cond t x false
+no x e h = told_false _ _ _ _ _ e (not-true _ h) refl
+
+-- What is still to be tested from the word at place 2, 3, 4 on.
+abbrev from_4 : List ℕ → Bool
+from_4 l = cond (is_number_at l 4) (is_number_at l 5) false
+
+abbrev from_3 : List ℕ → Bool
+from_3 l = cond (is_number_at l 3) (from_4 l) false
+
+abbrev from_2 : List ℕ → Bool
+from_2 l = cond (is_number_at l 2) (from_3 l) false
+
+pub returns-then-parts-ne6 : goal.returns-then-parts-ne6
+returns-then-parts-ne6 c =
+    on_ne (words c.args.line.now) 6 _ _ _ (λ e. c.if-parts-ne6.true (c.parts.ensures ∙ e)) refl
+
+pub returns-then-not-is_number_at : goal.returns-then-not-is_number_at
+returns-then-not-is_number_at c = (let it : r ≡ are_distances ((let it : List ℕ = c.args.line.now in it)) = on_eq (words ((let it : List ℕ = c.args.line.now in it))) 6 _ _ _ (sym c.parts.ensures ∙ c.if-parts-ne6.false) (no _ c.is_number_at.ensures c.if-not-is_number_at.true-raw) in it)
+
+pub returns-then-not-is_number_at-2 : goal.returns-then-not-is_number_at-2
+returns-then-not-is_number_at-2 c = (let it : r ≡ are_distances ((let it : List ℕ = (let it : List ℕ = c.args.line.now in it) in it)) = (let it : r ≡ are_distances ((let it : List ℕ = c.args.line.now in it)) = on_eq (words ((let it : List ℕ = c.args.line.now in it))) 6 _ _ _ (sym c.parts.ensures ∙ c.if-parts-ne6.false) (yes c.is_number_at.ensures c.if-not-is_number_at.false-raw (no _ c.is_number_at-2.ensures c.if-not-is_number_at-2.true-raw)) in it) in it)
+
+pub returns-then-not-is_number_at-3 : goal.returns-then-not-is_number_at-3
+returns-then-not-is_number_at-3 c = (let it : r ≡ are_distances ((let it : List ℕ = (let it : List ℕ = (let it : List ℕ = c.args.line.now in it) in it) in it)) = (let it : r ≡ are_distances ((let it : List ℕ = (let it : List ℕ = c.args.line.now in it) in it)) = (let it : r ≡ are_distances ((let it : List ℕ = c.args.line.now in it)) = on_eq (words ((let it : List ℕ = c.args.line.now in it))) 6 _ _ _ (sym c.parts.ensures ∙ c.if-parts-ne6.false) (yes c.is_number_at.ensures c.if-not-is_number_at.false-raw (yes c.is_number_at-2.ensures c.if-not-is_number_at-2.false-raw (no _ c.is_number_at-3.ensures c.if-not-is_number_at-3.true-raw))) in it) in it) in it)
+
+pub returns-then-not-is_number_at-4 : goal.returns-then-not-is_number_at-4
+returns-then-not-is_number_at-4 c = (let it : r ≡ are_distances ((let it : List ℕ = (let it : List ℕ = (let it : List ℕ = (let it : List ℕ = c.args.line.now in it) in it) in it) in it)) = (let it : r ≡ are_distances ((let it : List ℕ = (let it : List ℕ = (let it : List ℕ = c.args.line.now in it) in it) in it)) = (let it : r ≡ are_distances ((let it : List ℕ = (let it : List ℕ = c.args.line.now in it) in it)) = (let it : r ≡ are_distances ((let it : List ℕ = c.args.line.now in it)) = on_eq (words ((let it : List ℕ = c.args.line.now in it))) 6 _ _ _ (sym c.parts.ensures ∙ c.if-parts-ne6.false) (yes c.is_number_at.ensures c.if-not-is_number_at.false-raw (yes c.is_number_at-2.ensures c.if-not-is_number_at-2.false-raw (yes c.is_number_at-3.ensures c.if-not-is_number_at-3.false-raw (no _ c.is_number_at-4.ensures c.if-not-is_number_at-4.true-raw)))) in it) in it) in it) in it)
+
+pub returns : goal.returns
+returns c = (let it : r ≡ are_distances ((let it : List ℕ = (let it : List ℕ = (let it : List ℕ = (let it : List ℕ = (let it : List ℕ = c.args.line.now in it) in it) in it) in it) in it)) = (let it : r ≡ are_distances ((let it : List ℕ = (let it : List ℕ = (let it : List ℕ = (let it : List ℕ = c.args.line.now in it) in it) in it) in it)) = (let it : r ≡ are_distances ((let it : List ℕ = (let it : List ℕ = (let it : List ℕ = c.args.line.now in it) in it) in it)) = (let it : r ≡ are_distances ((let it : List ℕ = (let it : List ℕ = c.args.line.now in it) in it)) = (let it : r ≡ are_distances ((let it : List ℕ = c.args.line.now in it)) = on_eq (words ((let it : List ℕ = c.args.line.now in it))) 6 _ _ _ (sym c.parts.ensures ∙ c.if-parts-ne6.false) (yes c.is_number_at.ensures c.if-not-is_number_at.false-raw (yes c.is_number_at-2.ensures c.if-not-is_number_at-2.false-raw (yes c.is_number_at-3.ensures c.if-not-is_number_at-3.false-raw (yes c.is_number_at-4.ensures c.if-not-is_number_at-4.false-raw c.is_number_at-5.ensures)))) in it) in it) in it) in it) in it)

@@ -1,0 +1,24 @@
+-- What the bench would print, byte by byte. The measure is the bytes left. Assumes nothing.
+use native.Mathlib.Omega.{arith}
+use Rattle.preview.proofs.telling.tell.Goals as goal
+
+pub loop-i-init : goal.loop-i-init
+loop-i-init c = omega arith
+
+pub bounds-bytes-i : goal.bounds-bytes-i
+bounds-bytes-i c = c.loop-i-test.true
+
+pub tell_byte-next-requires : goal.tell_byte-next-requires
+tell_byte-next-requires c = tt
+
+pub overflow_add-i : goal.overflow_add-i
+overflow_add-i c = record { fits = omega arith }
+
+pub loop-i-smaller : goal.loop-i-smaller
+loop-i-smaller c = omega arith
+
+pub loop-i-preserved : goal.loop-i-preserved
+loop-i-preserved c = omega arith
+
+pub returns : goal.returns
+returns c = tt

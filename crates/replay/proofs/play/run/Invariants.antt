@@ -1,0 +1,16 @@
+-- So many ticks. The invariant: the controller, the digest and the buffer are those of the ticks so far, after every
+-- list of calls that leaves the first controller. The measure is the ticks left. Assumes nothing.
+use Prim.Native.Nat.{◌-◌, ◌≤◌}
+use mathlib.Core.Path.{◌≡◌}
+use lib.ListN.{length}
+use Rattle.controller.specs.Reach.{Reachable}
+use Rattle.replay.proofs.PlayLaws.{Ticking, Lent}
+use Rattle.replay.proofs.play.run.Given as goal
+
+abbrev pub invariant-loop-i : goal.invariant-loop-i
+invariant-loop-i l =
+    (l.i ≤ l.word) × Reachable l.count.controller × (length l.played ≡ length l.initial.buf) × Ticking l.buf l.initial.buf l.count l.i l.initial.i
+    × Lent l.buf l.initial.buf l.count l.i l.played
+
+abbrev pub decreases-loop-i : goal.decreases-loop-i
+decreases-loop-i l = l.word - l.i

@@ -1,0 +1,44 @@
+-- `gather` meets its contract: each return, by the tests and the answers that led there. Assumes nothing.
+use native.Mathlib.Omega.{arith}
+use mathlib.Core.Path.{sym}
+use lib.Seq.{length-take-le}
+use Rattle.receiver.proofs.Laws.{before_short}
+use Rattle.session.specs.Stretch.{is_mark}
+use Rattle.session.proofs.SessionLaws.{reached}
+use Rattle.session.proofs.GatheredLaws.{none_gathered, kept_gathered, sent_gathered, gathered_told}
+use Rattle.session.proofs.state.Session.gather.Goals as goal
+
+pub bounds-bytes-0 : goal.bounds-bytes-0
+bounds-bytes-0 c =
+    omega (arith, c.before_mark-count.ensures, before_short is_mark c.args.bytes.now)
+
+pub slice_bounds-push_all-end : goal.slice_bounds-push_all-end
+slice_bounds-push_all-end c =
+    sym (length-take-le _ _
+    (omega (arith, c.before_mark-count.ensures, before_short is_mark c.args.bytes.now)))
+
+pub slice_bounds-gather-end : goal.slice_bounds-gather-end
+slice_bounds-gather-end c =
+    sym (length-take-le _ _
+    (omega (arith, c.before_mark-count.ensures, before_short is_mark c.args.bytes.now)))
+
+pub gather-gathered-requires : goal.gather-gathered-requires
+gather-gathered-requires c =
+    reached c.args.self c.requires
+
+pub returns-then-keeps : goal.returns-then-keeps
+returns-then-keeps c =
+    gathered_told c.args.self c.args.bytes.now c.before_mark-count.result c.before_mark-count.ensures _ c.requires
+    (kept_gathered c.args.self c.args.bytes.now c.before_mark-count.result c.before_mark-count.ensures c.keeps.result c.push_all-more.result
+    c.keeps.ensures c.if-keeps.true c.if-count-gt0.true c.push_all-more.ensures)
+
+pub returns-else-keeps : goal.returns-else-keeps
+returns-else-keeps c =
+    gathered_told c.args.self c.args.bytes.now c.before_mark-count.result c.before_mark-count.ensures _ c.requires
+    (sent_gathered c.args.self c.args.bytes.now c.before_mark-count.result c.before_mark-count.ensures c.keeps.result c.gather-gathered.result
+    c.keeps.ensures c.if-keeps.false c.if-count-gt0.true c.gather-gathered.ensures.0)
+
+pub returns-else-count-gt0 : goal.returns-else-count-gt0
+returns-else-count-gt0 c =
+    gathered_told c.args.self c.args.bytes.now c.before_mark-count.result c.before_mark-count.ensures _ c.requires
+    (none_gathered c.args.self c.args.bytes.now c.before_mark-count.result c.before_mark-count.ensures (omega (arith, c.if-count-gt0.false)))

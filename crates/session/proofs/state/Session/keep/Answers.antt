@@ -1,0 +1,11 @@
+-- A character kept. Assumes nothing.
+use Rattle.session.specs.declared.state.Place.TheVariants.{Asking}
+use Rattle.session.proofs.state.Session.keep.Goals as goal
+
+pub returns : goal.returns
+returns c =
+    λ l e. λ i. record {
+      session = record { controller = c.args.self.controller; kept = c.push-kept.ensures.keeping l e i; place = Asking };
+      length = 0;
+      number = 0;
+    }

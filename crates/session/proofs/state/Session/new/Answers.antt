@@ -1,0 +1,9 @@
+-- The controller that has the host's first line, and no input yet; and the law of whole lines. Assumes nothing.
+use Rattle.session.proofs.LineLaws.{lines}
+use Rattle.session.proofs.SessionLaws.{fresh_told}
+use Rattle.session.proofs.state.Session.new.Goals as goal
+
+pub returns : goal.returns
+returns c =
+    let t = fresh_told _ _ c.opened-controller.ensures c.new-kept.ensures in
+    (t.0, (t.1, lines))

@@ -1,0 +1,18 @@
+-- So many ticks. The invariant: controller, sums, number and block are those of the ticks so far, on every machine so
+-- held. The measure is the ticks left. Assumes nothing.
+use Prim.Native.Nat.{◌-◌, ◌≤◌}
+use mathlib.Core.Path.{◌≡◌}
+use lib.ListN.{length}
+use Rattle.block.specs.Block.{over}
+use Rattle.controller.specs.Reach.{Reachable, Made}
+use Rattle.session.specs.Ticks.{blocks_of, ran_of}
+use Rattle.session.proofs.ticks.run_ticks.Given as goal
+
+abbrev pub invariant-loop-i : goal.invariant-loop-i
+invariant-loop-i l =
+    (l.i ≤ l.buf) × Reachable l.initial.i.controller × Reachable l.word.controller × (120 ≤ length l.ran)
+    × (length l.ran ≡ length l.initial.buf) × Made l.word.controller (λ m. l.initial.i ≡ ran_of l.i l.count m)
+    × Made l.word.controller (λ m. l.ran ≡ over (blocks_of l.i l.count m) l.initial.buf)
+
+abbrev pub decreases-loop-i : goal.decreases-loop-i
+decreases-loop-i l = l.buf - l.i

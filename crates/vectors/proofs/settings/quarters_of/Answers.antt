@@ -1,0 +1,8 @@
+-- 4 times a figure: both tests passed, so it can be truncated. Assumes nothing.
+use Rattle.std.proofs.Common.{T, sym, subst}
+use lib.Ieee.{of_bits, neg}
+use Rattle.vectors.proofs.settings.quarters_of.Goals as goal
+
+pub truncating_f64_to_u64-count-requires : goal.truncating_f64_to_u64-count-requires
+unfolding of_bits neg
+truncating_f64_to_u64-count-requires c = (subst T (sym c.if-y.true) tt, subst T (sym c.if-y-2.true) tt)
