@@ -45,18 +45,16 @@ pub shape_of-buf-in-Absent : goal.shape_of-buf-in-Absent
 shape_of-buf-in-Absent c = simp length-set
 
 pub returns-in-Absent : goal.returns-in-Absent
-returns-in-Absent c =
-    (
-      sym (block_absent c.args.block c.in-Absent.is),
-      stored_over c.args.block _ _ c.capital.ensures c.six_capitals-d.ensures Absent _ c.in-Absent.is c.requires,
-    )
+returns-in-Absent c = (
+  sym (block_absent c.args.block c.in-Absent.is),
+  stored_over c.args.block _ _ c.capital.ensures c.six_capitals-d.ensures Absent _ c.in-Absent.is c.requires,
+)
 
 pub shape_of-buf-in-Given : goal.shape_of-buf-in-Given
 shape_of-buf-in-Given c = simp length-set
 
 pub returns-in-Given : goal.returns-in-Given
-returns-in-Given c =
-    (
-      sym ((let it : length (block_of c.args.block) ≡ 10 = block_given c.args.block _ c.in-Given.is in it)),
-      stored_over c.args.block _ _ c.capital.ensures c.six_capitals-d.ensures (Given _) _ c.in-Given.is c.requires,
-    )
+returns-in-Given c = (
+  sym ((let it : length (block_of c.args.block) ≡ 10 = block_given c.args.block _ c.in-Given.is in it)),
+  stored_over c.args.block _ _ c.capital.ensures c.six_capitals-d.ensures (Given _) _ c.in-Given.is c.requires,
+)

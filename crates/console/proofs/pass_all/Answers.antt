@@ -44,15 +44,14 @@ loop-i-smaller c =
     )
 
 pub loop-i-preserved : goal.loop-i-preserved
-loop-i-preserved c =
-    (
-      filled_end c.loop-i.session c.fill-filled.result c.fill-filled.new.1.0 c.loop-i.out c.args.bytes.now c.loop-i.i c.fill-filled.ensures.runs c.loop-i.invariant.2
-          c.loop-i.invariant.0,
-      c.loop-i.invariant.1 ∙ sym c.fill-filled.auto.1.0,
-      c.fill-filled.ensures.running,
-      after_more c.args.s c.loop-i.session c.fill-filled.result.session c.args.bytes.now c.loop-i.i c.fill-filled.result.count c.loop-i.invariant.3
-          (filled_session c.loop-i.session c.fill-filled.result c.fill-filled.new.1.0 c.loop-i.out c.args.bytes.now c.loop-i.i c.fill-filled.ensures.runs),
-    )
+loop-i-preserved c = (
+  filled_end c.loop-i.session c.fill-filled.result c.fill-filled.new.1.0 c.loop-i.out c.args.bytes.now c.loop-i.i c.fill-filled.ensures.runs c.loop-i.invariant.2
+      c.loop-i.invariant.0,
+  c.loop-i.invariant.1 ∙ sym c.fill-filled.auto.1.0,
+  c.fill-filled.ensures.running,
+  after_more c.args.s c.loop-i.session c.fill-filled.result.session c.args.bytes.now c.loop-i.i c.fill-filled.result.count c.loop-i.invariant.3
+      (filled_session c.loop-i.session c.fill-filled.result c.fill-filled.new.1.0 c.loop-i.out c.args.bytes.now c.loop-i.i c.fill-filled.ensures.runs),
+)
 
 pub returns : goal.returns
 returns c =

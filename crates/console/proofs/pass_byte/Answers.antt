@@ -10,15 +10,14 @@ overflow_add-result c =
     record { fits = omega (arith, k) }
 
 pub returns : goal.returns
-returns c =
+returns c = (
+  c.take-taken.ensures.running,
+  (
+    room_length c.args.s c.args.b c.args.at c.take-taken.result c.take-taken.new.1.0 c.args.out.now c.take-taken.ensures.runs c.requires.1
+        c.requires.0 c.take-taken.auto.1.0,
     (
-      c.take-taken.ensures.running,
-      (
-        room_length c.args.s c.args.b c.args.at c.take-taken.result c.take-taken.new.1.0 c.args.out.now c.take-taken.ensures.runs c.requires.1
-            c.requires.0 c.take-taken.auto.1.0,
-        (
-          room_bench c.args.s c.args.b c.args.at c.take-taken.result c.take-taken.new.1.0 c.args.out.now c.take-taken.ensures.runs c.requires.1,
-          room_stands c.args.s c.args.b c.args.at c.take-taken.result c.take-taken.new.1.0 c.args.out.now c.take-taken.ensures.runs c.requires.1,
-        ),
-      ),
-    )
+      room_bench c.args.s c.args.b c.args.at c.take-taken.result c.take-taken.new.1.0 c.args.out.now c.take-taken.ensures.runs c.requires.1,
+      room_stands c.args.s c.args.b c.args.at c.take-taken.result c.take-taken.new.1.0 c.args.out.now c.take-taken.ensures.runs c.requires.1,
+    ),
+  ),
+)

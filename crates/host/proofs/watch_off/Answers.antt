@@ -5,6 +5,6 @@ use Rattle.host.proofs.watch_off.Goals as goal
 
 pub returns : goal.returns
 returns c = record {
-      value = refl;
-      watch_off = watch_off_lem;
-    }
+  value = refl;
+  watch_off = watch_off_lem;
+}

@@ -9,8 +9,7 @@ use Rattle.readout.proofs.block.Goals as goal
 
 pub returns : goal.returns
 unfolding block_text
-returns c =
-    (
-      c.figure.ensures ∙ ap (λ (f : Figures). writes c.args.text (figure_text f)) c.read-reading.ensures,
-      (replies_told, fits),
-    )
+returns c = (
+  c.figure.ensures ∙ ap (λ (f : Figures). writes c.args.text (figure_text f)) c.read-reading.ensures,
+  (replies_told, fits),
+)

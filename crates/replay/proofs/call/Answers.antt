@@ -6,9 +6,9 @@ use Rattle.replay.proofs.call.Goals as goal
 
 pub ticks-requires : goal.ticks-requires
 ticks-requires c = record {
-      reachable = c.requires;
-      room_bound = c.tick_room-room.ensures.1;
-    }
+  reachable = c.requires;
+  room_bound = c.tick_room-room.ensures.1;
+}
 
 pub returns-then-is_ticks : goal.returns-then-is_ticks
 returns-then-is_ticks c =

@@ -44,14 +44,13 @@ pub loop-j-smaller : goal.loop-j-smaller
 loop-j-smaller c = omega arith
 
 pub loop-j-preserved : goal.loop-j-preserved
-loop-j-preserved c =
-    (
-      omega arith,
-      c.loop-j.invariant.1,
-      after_next c.args.switch c.args.calls.now c.loop-j.j c.loop-j.played c.call-next.result
-          c.word_at-value.result c.word_at-count.result c.loop-j.invariant.2
-          c.word_at-value.ensures c.word_at-count.ensures c.call-next.ensures,
-    )
+loop-j-preserved c = (
+  omega arith,
+  c.loop-j.invariant.1,
+  after_next c.args.switch c.args.calls.now c.loop-j.j c.loop-j.played c.call-next.result
+      c.word_at-value.result c.word_at-count.result c.loop-j.invariant.2
+      c.word_at-value.ensures c.word_at-count.ensures c.call-next.ensures,
+)
 
 pub returns : goal.returns
 unfolding replayed

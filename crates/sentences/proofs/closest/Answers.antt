@@ -21,13 +21,12 @@ loop-k-smaller c = omega (arith, c.loop-k-test.true)
 
 pub loop-k-preserved : goal.loop-k-preserved
 unfolding closest
-loop-k-preserved c =
-    (
-      omega (arith, c.loop-k-test.true),
-      c.better-best.ensures
-          ∙ (ap (λ (n : ℕ). better_of c.args.w.now n c.loop-k.k) c.loop-k.invariant.1
-          ∙ ap (λ (n : ℕ). closest n c.args.w.now) (sym (add-one c.loop-k.k))),
-    )
+loop-k-preserved c = (
+  omega (arith, c.loop-k-test.true),
+  c.better-best.ensures
+      ∙ (ap (λ (n : ℕ). better_of c.args.w.now n c.loop-k.k) c.loop-k.invariant.1
+      ∙ ap (λ (n : ℕ). closest n c.args.w.now) (sym (add-one c.loop-k.k))),
+)
 
 pub returns : goal.returns
 returns c =

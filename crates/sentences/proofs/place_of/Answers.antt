@@ -22,13 +22,12 @@ loop-k-smaller c = omega (arith, c.loop-k-test.true)
 
 pub loop-k-preserved : goal.loop-k-preserved
 unfolding place_in
-loop-k-preserved c =
-    (
-      omega (arith, c.loop-k-test.true),
-      c.or_else-found.ensures
-          ∙ (ap (λ (n : ℕ). or_else c.args.w.now n c.loop-k.k) c.loop-k.invariant.1
-          ∙ ap (λ (n : ℕ). place_in n c.args.w.now) (sym (add-one c.loop-k.k))),
-    )
+loop-k-preserved c = (
+  omega (arith, c.loop-k-test.true),
+  c.or_else-found.ensures
+      ∙ (ap (λ (n : ℕ). or_else c.args.w.now n c.loop-k.k) c.loop-k.invariant.1
+      ∙ ap (λ (n : ℕ). place_in n c.args.w.now) (sym (add-one c.loop-k.k))),
+)
 
 pub returns : goal.returns
 returns c =

@@ -23,36 +23,33 @@ promises : Numbers × (PlainStart × (FirstEnd × (Rest × (OnTheBench × (Trial
 promises = (numbers, (plain_start, (first_end, (rest, (on_the_bench, (trials, whole_trial))))))
 
 pub returns-then-word-gt-LAST_WORD : goal.returns-then-word-gt-LAST_WORD
-returns-then-word-gt-LAST_WORD c =
-    (
-      λ s h e. c.turned.ensures
-          ∙ by_word (state s h) c.args.master c.args.word c.args.ticks (omega (arith, c.if-word-gt-LAST_WORD.true)),
-      promises,
-    )
+returns-then-word-gt-LAST_WORD c = (
+  λ s h e. c.turned.ensures
+      ∙ by_word (state s h) c.args.master c.args.word c.args.ticks (omega (arith, c.if-word-gt-LAST_WORD.true)),
+  promises,
+)
 
 pub returns-then-ticks-gt-MOST_TICKS : goal.returns-then-ticks-gt-MOST_TICKS
-returns-then-ticks-gt-MOST_TICKS c =
-    (
-      λ s h e. c.turned-then-ticks-gt-MOST_TICKS.ensures
-          ∙ by_ticks (state s h) c.args.master c.args.word c.args.ticks (omega (arith, c.if-word-gt-LAST_WORD.false))
-          (omega (arith, c.if-ticks-gt-MOST_TICKS.true)),
-      promises,
-    )
+returns-then-ticks-gt-MOST_TICKS c = (
+  λ s h e. c.turned-then-ticks-gt-MOST_TICKS.ensures
+      ∙ by_ticks (state s h) c.args.master c.args.word c.args.ticks (omega (arith, c.if-word-gt-LAST_WORD.false))
+      (omega (arith, c.if-ticks-gt-MOST_TICKS.true)),
+  promises,
+)
 
 pub returns-then-master-gt-LAST_AXIS : goal.returns-then-master-gt-LAST_AXIS
-returns-then-master-gt-LAST_AXIS c =
-    (
-      λ s h e. c.turned-then-master-gt-LAST_AXIS.ensures
-          ∙ by_master (state s h) c.args.master c.args.word c.args.ticks (omega (arith, c.if-word-gt-LAST_WORD.false))
-          (omega (arith, c.if-ticks-gt-MOST_TICKS.false)) (omega (arith, c.if-master-gt-LAST_AXIS.true)),
-      promises,
-    )
+returns-then-master-gt-LAST_AXIS c = (
+  λ s h e. c.turned-then-master-gt-LAST_AXIS.ensures
+      ∙ by_master (state s h) c.args.master c.args.word c.args.ticks (omega (arith, c.if-word-gt-LAST_WORD.false))
+      (omega (arith, c.if-ticks-gt-MOST_TICKS.false)) (omega (arith, c.if-master-gt-LAST_AXIS.true)),
+  promises,
+)
 
 pub start-start-requires : goal.start-start-requires
 start-start-requires c = record {
-      reachable = c.requires;
-      master_bound = omega (arith, c.if-master-gt-LAST_AXIS.false);
-    }
+  reachable = c.requires;
+  master_bound = omega (arith, c.if-master-gt-LAST_AXIS.false);
+}
 
 -- Past the three tests, before the start.
 module _ (t : tie.Else3) where
@@ -66,16 +63,15 @@ module _ (t : tie.Else3) where
   master_fits = omega (arith, t.if3.left)
 
 pub returns-then-start-ne0 : goal.returns-then-start-ne0
-returns-then-start-ne0 c =
-    (
-      λ s h e.
-          let p = ap (λ (x : ByteAnswer). x.number) (c.start-start.ensures.made s h e) in
-          c.turned-then-start-ne0.ensures
-          ∙ (ap turned p
-          ∙ by_start (state s h) c.args.master c.args.word c.args.ticks (word_fits c.before.before.before.before) (ticks_fit c.before.before.before.before) (master_fits c.before.before.before.before)
-          (λ z. c.if-start-ne0.true (p ∙ z))),
-      promises,
-    )
+returns-then-start-ne0 c = (
+  λ s h e.
+      let p = ap (λ (x : ByteAnswer). x.number) (c.start-start.ensures.made s h e) in
+      c.turned-then-start-ne0.ensures
+      ∙ (ap turned p
+      ∙ by_start (state s h) c.args.master c.args.word c.args.ticks (word_fits c.before.before.before.before) (ticks_fit c.before.before.before.before) (master_fits c.before.before.before.before)
+      (λ z. c.if-start-ne0.true (p ∙ z))),
+  promises,
+)
 
 pub run-ran-requires : goal.run-ran-requires
 run-ran-requires c = c.start-start.ensures.reachable_2

@@ -22,13 +22,12 @@ loop-k-smaller c = omega (arith, c.loop-k-test.true)
 
 pub loop-k-preserved : goal.loop-k-preserved
 unfolding sums_in
-loop-k-preserved c =
-    (
-      omega (arith, c.loop-k-test.true),
-      c.and_sum-good.ensures
-          ∙ (ap (λ (b : Bool). and_sum b c.args.line.now c.loop-k.k) c.loop-k.invariant.1
-          ∙ ap (λ (n : ℕ). sums_in n c.args.line.now) (sym (add-one c.loop-k.k))),
-    )
+loop-k-preserved c = (
+  omega (arith, c.loop-k-test.true),
+  c.and_sum-good.ensures
+      ∙ (ap (λ (b : Bool). and_sum b c.args.line.now c.loop-k.k) c.loop-k.invariant.1
+      ∙ ap (λ (n : ℕ). sums_in n c.args.line.now) (sym (add-one c.loop-k.k))),
+)
 
 pub returns : goal.returns
 returns c =

@@ -26,20 +26,18 @@ overflow_mul-u c =
     omega (arith, mul-le-mul c.requires.now c.requires.now)
 
 pub returns-then-a-left : goal.returns-then-a-left
-returns-then-a-left c =
-    (
-      on_false _ _ _ _ c.if-run.false
-          (on_le _ _ _ _ _ c.if-a-left.true c.brake.ensures),
-      subst (λ (x : ℕ). x ≤ 50000000) (sym c.brake.ensures)
-          (braked_small c.args.run.speed c.args.settings.slope c.requires.now),
-    )
+returns-then-a-left c = (
+  on_false _ _ _ _ c.if-run.false
+      (on_le _ _ _ _ _ c.if-a-left.true c.brake.ensures),
+  subst (λ (x : ℕ). x ≤ 50000000) (sym c.brake.ensures)
+      (braked_small c.args.run.speed c.args.settings.slope c.requires.now),
+)
 
 pub returns : goal.returns
-returns c =
-    (
-      on_false _ _ _ _ c.if-run.false
-          (on_gt _ _ _ _ _ c.if-a-left.false c.approach.ensures),
-      subst (λ (x : ℕ). x ≤ 50000000) (sym c.approach.ensures)
-          (towards_small c.args.run.speed (50 * c.args.settings.speed) c.args.settings.slope c.requires.now
-          (omega (arith, c.requires.speed))),
-    )
+returns c = (
+  on_false _ _ _ _ c.if-run.false
+      (on_gt _ _ _ _ _ c.if-a-left.false c.approach.ensures),
+  subst (λ (x : ℕ). x ≤ 50000000) (sym c.approach.ensures)
+      (towards_small c.args.run.speed (50 * c.args.settings.speed) c.args.settings.slope c.requires.now
+      (omega (arith, c.requires.speed))),
+)

@@ -34,15 +34,14 @@ pub loop-k-smaller : goal.loop-k-smaller
 loop-k-smaller c = omega (arith, c.loop-k-test.true)
 
 pub loop-k-preserved : goal.loop-k-preserved
-loop-k-preserved c =
-    (
-      omega (arith, c.loop-k-test.true),
-      (
-        length-set c.loop-k.values c.loop-k.k c.judge-one.result.value ∙ c.loop-k.invariant.1.0,
-        loop_goes_on c.args.bytes.now c.loop-k.k c.loop-k.place c.loop-k-test.true c.args.at c.loop-k.values c.judge-one.result
-            c.loop-k.invariant.1.1 c.judge-one.ensures c.loop-k.invariant.1.0 c.if-one-ne0.false,
-      ),
-    )
+loop-k-preserved c = (
+  omega (arith, c.loop-k-test.true),
+  (
+    length-set c.loop-k.values c.loop-k.k c.judge-one.result.value ∙ c.loop-k.invariant.1.0,
+    loop_goes_on c.args.bytes.now c.loop-k.k c.loop-k.place c.loop-k-test.true c.args.at c.loop-k.values c.judge-one.result
+        c.loop-k.invariant.1.1 c.judge-one.ensures c.loop-k.invariant.1.0 c.if-one-ne0.false,
+  ),
+)
 
 pub returns : goal.returns
 returns c =

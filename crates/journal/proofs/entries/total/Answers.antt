@@ -28,15 +28,14 @@ pub loop-k-smaller : goal.loop-k-smaller
 loop-k-smaller c = omega arith
 
 pub loop-k-preserved : goal.loop-k-preserved
-loop-k-preserved c =
-    (
-      omega arith,
-      (
-        omega (arith, c.size-sum.ensures.1),
-        counted c.args.values c.loop-k.k c.loop-k.sum c.size-sum.result (omega (arith, c.well-formed.0.1.0.1)) c.loop-k.invariant.1.1
-            c.size-sum.ensures.0,
-      ),
-    )
+loop-k-preserved c = (
+  omega arith,
+  (
+    omega (arith, c.size-sum.ensures.1),
+    counted c.args.values c.loop-k.k c.loop-k.sum c.size-sum.result (omega (arith, c.well-formed.0.1.0.1)) c.loop-k.invariant.1.1
+        c.size-sum.ensures.0,
+  ),
+)
 
 pub returns : goal.returns
 returns c =

@@ -19,12 +19,11 @@ bounds-values-k c = omega arith
 
 pub write-place-requires : goal.write-place-requires
 unfolding capacity
-write-place-requires c =
-    (
-      spell.next_room c.args.at c.args.values c.args.buf.now c.requires.0 c.loop-k.k c.loop-k.place c.loop-k.buf
-          c.loop-k.invariant.1.0 c.loop-k.invariant.1.1 (omega (arith, fit_length ranges c.args.values c.requires.1)),
-      within_small c.loop-k.k _ (fit_at ranges c.args.values travel_range c.loop-k.k c.requires.1 c.loop-k-test.true),
-    )
+write-place-requires c = (
+  spell.next_room c.args.at c.args.values c.args.buf.now c.requires.0 c.loop-k.k c.loop-k.place c.loop-k.buf
+      c.loop-k.invariant.1.0 c.loop-k.invariant.1.1 (omega (arith, fit_length ranges c.args.values c.requires.1)),
+  within_small c.loop-k.k _ (fit_at ranges c.args.values travel_range c.loop-k.k c.requires.1 c.loop-k-test.true),
+)
 
 pub overflow_step-k : goal.overflow_step-k
 overflow_step-k c =
@@ -35,13 +34,12 @@ loop-k-smaller c =
     omega (arith, c.loop-k-test.true)
 
 pub loop-k-preserved : goal.loop-k-preserved
-loop-k-preserved c =
-    (
-      omega (arith, c.loop-k-test.true),
-      spell.one_more c.args.at c.args.values c.args.buf.now c.requires.0 c.loop-k.k c.loop-k.place c.loop-k.buf
-          c.loop-k.invariant.1.0 c.loop-k.invariant.1.1 c.write-place.result c.write-place.new.0
-          (omega (arith, c.loop-k-test.true, fit_length ranges c.args.values c.requires.1)) c.write-place.ensures.value c.write-place.ensures.buf_after,
-    )
+loop-k-preserved c = (
+  omega (arith, c.loop-k-test.true),
+  spell.one_more c.args.at c.args.values c.args.buf.now c.requires.0 c.loop-k.k c.loop-k.place c.loop-k.buf
+      c.loop-k.invariant.1.0 c.loop-k.invariant.1.1 c.write-place.result c.write-place.new.0
+      (omega (arith, c.loop-k-test.true, fit_length ranges c.args.values c.requires.1)) c.write-place.ensures.value c.write-place.ensures.buf_after,
+)
 
 pub shape_of-buf : goal.shape_of-buf
 shape_of-buf c =

@@ -26,12 +26,11 @@ pub loop-i-smaller : goal.loop-i-smaller
 loop-i-smaller c = omega arith
 
 pub loop-i-preserved : goal.loop-i-preserved
-loop-i-preserved c =
-    (
-      omega arith,
-      ap (λ (x : Receiver). push_all x (drop (c.loop-i.i + 1) c.args.cs.now)) c.push-more.ensures
-          ∙ (sym (all_next c.loop-i.next c.args.cs.now c.loop-i.i (omega arith)) ∙ c.loop-i.invariant.1),
-    )
+loop-i-preserved c = (
+  omega arith,
+  ap (λ (x : Receiver). push_all x (drop (c.loop-i.i + 1) c.args.cs.now)) c.push-more.ensures
+      ∙ (sym (all_next c.loop-i.next c.args.cs.now c.loop-i.i (omega arith)) ∙ c.loop-i.invariant.1),
+)
 
 pub returns : goal.returns
 returns c =

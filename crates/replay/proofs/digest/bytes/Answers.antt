@@ -27,12 +27,11 @@ pub loop-i-smaller : goal.loop-i-smaller
 loop-i-smaller c = omega arith
 
 pub loop-i-preserved : goal.loop-i-preserved
-loop-i-preserved c =
-    (
-      omega arith,
-      bytes_next c.args.h c.loop-i.i c.args.buf.now c.loop-i.digest c.mix-digest.result (omega arith) c.loop-i.invariant.1
-          c.mix-digest.ensures,
-    )
+loop-i-preserved c = (
+  omega arith,
+  bytes_next c.args.h c.loop-i.i c.args.buf.now c.loop-i.digest c.mix-digest.result (omega arith) c.loop-i.invariant.1
+      c.mix-digest.ensures,
+)
 
 pub returns : goal.returns
 returns c =

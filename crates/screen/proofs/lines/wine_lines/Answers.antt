@@ -22,15 +22,14 @@ loop-k-smaller c = omega (arith, c.loop-k-test.true)
 
 pub loop-k-preserved : goal.loop-k-preserved
 unfolding wine_lines
-loop-k-preserved c =
-    (
-      omega (arith, c.loop-k-test.true),
-      joined c.args.text (wine_lines c.loop-k.k c.args.trial) (wine_line c.args.trial c.loop-k.k) c.loop-k.invariant.1
-          c.wine_line-more.ensures.value
-          ∙ ap (λ (n : ℕ). writes c.args.text (wine_lines n c.args.trial)) (sym (add-one c.loop-k.k)),
-      subst (λ (n : ℕ). length (wine_lines n c.args.trial) ≤ n * 36) (sym (add-one c.loop-k.k))
-          (wines_more c.args.trial c.loop-k.k c.loop-k.invariant.2 c.wine_line-more.ensures.k_len_bound),
-    )
+loop-k-preserved c = (
+  omega (arith, c.loop-k-test.true),
+  joined c.args.text (wine_lines c.loop-k.k c.args.trial) (wine_line c.args.trial c.loop-k.k) c.loop-k.invariant.1
+      c.wine_line-more.ensures.value
+      ∙ ap (λ (n : ℕ). writes c.args.text (wine_lines n c.args.trial)) (sym (add-one c.loop-k.k)),
+  subst (λ (n : ℕ). length (wine_lines n c.args.trial) ≤ n * 36) (sym (add-one c.loop-k.k))
+      (wines_more c.args.trial c.loop-k.k c.loop-k.invariant.2 c.wine_line-more.ensures.k_len_bound),
+)
 
 pub returns : goal.returns
 returns c =

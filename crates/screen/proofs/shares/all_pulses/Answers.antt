@@ -21,12 +21,11 @@ loop-k-smaller c = omega (arith, c.loop-k-test.true)
 
 pub loop-k-preserved : goal.loop-k-preserved
 unfolding pulses_in
-loop-k-preserved c =
-    (
-      omega (arith, c.loop-k-test.true),
-      omega (arith, c.loop-k.invariant.1),
-      (λ i. c.loop-k.invariant.2 i + c.pulses.ensures i) ∙ ap (λ (n : ℕ). pulses_in n c.args.trial) (sym (add-one c.loop-k.k)),
-    )
+loop-k-preserved c = (
+  omega (arith, c.loop-k-test.true),
+  omega (arith, c.loop-k.invariant.1),
+  (λ i. c.loop-k.invariant.2 i + c.pulses.ensures i) ∙ ap (λ (n : ℕ). pulses_in n c.args.trial) (sym (add-one c.loop-k.k)),
+)
 
 pub returns : goal.returns
 returns c =

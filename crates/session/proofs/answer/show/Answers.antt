@@ -27,14 +27,13 @@ pub loop-i-smaller : goal.loop-i-smaller
 loop-i-smaller c = omega arith
 
 pub loop-i-preserved : goal.loop-i-preserved
-loop-i-preserved c =
-    (
-      omega arith,
-      c.loop-i.invariant.1,
-      simp length-set c.loop-i.invariant.2,
-      show_next c.loop-i.i c.args.buf.now c.loop-i.buf (omega arith) c.loop-i.invariant.3 c.shown_byte.result
-          c.shown_byte.ensures,
-    )
+loop-i-preserved c = (
+  omega arith,
+  c.loop-i.invariant.1,
+  simp length-set c.loop-i.invariant.2,
+  show_next c.loop-i.i c.args.buf.now c.loop-i.buf (omega arith) c.loop-i.invariant.3 c.shown_byte.result
+      c.shown_byte.ensures,
+)
 
 pub shape_of-buf : goal.shape_of-buf
 shape_of-buf c = c.loop-i.invariant.2

@@ -19,12 +19,11 @@ pub join-n-requires : goal.join-n-requires
 join-n-requires c = omega arith
 
 pub loop-i-init : goal.loop-i-init
-loop-i-init c =
-    (
-      omega arith,
-      c.join-n.ensures.1,
-      count_first _ (omega arith) ∙ ap (λ x. read_on x (drop 1 c.args.cs.now)) (sym c.join-n.ensures.0),
-    )
+loop-i-init c = (
+  omega arith,
+  c.join-n.ensures.1,
+  count_first _ (omega arith) ∙ ap (λ x. read_on x (drop 1 c.args.cs.now)) (sym c.join-n.ensures.0),
+)
 
 pub returns-then-n-eq0 : goal.returns-then-n-eq0
 returns-then-n-eq0 c =
@@ -43,13 +42,12 @@ pub loop-i-smaller : goal.loop-i-smaller
 loop-i-smaller c = omega arith
 
 pub loop-i-preserved : goal.loop-i-preserved
-loop-i-preserved c =
-    (
-      omega arith,
-      c.join-n-in-loop-i.ensures.1,
-      c.loop-i.invariant.2 ∙ read_next c.loop-i.n c.loop-i.i c.args.cs.now (omega arith) c.if-n-eq0.false
-          ∙ ap (λ x. read_on x (drop (c.loop-i.i + 1) c.args.cs.now)) (sym c.join-n-in-loop-i.ensures.0),
-    )
+loop-i-preserved c = (
+  omega arith,
+  c.join-n-in-loop-i.ensures.1,
+  c.loop-i.invariant.2 ∙ read_next c.loop-i.n c.loop-i.i c.args.cs.now (omega arith) c.if-n-eq0.false
+      ∙ ap (λ x. read_on x (drop (c.loop-i.i + 1) c.args.cs.now)) (sym c.join-n-in-loop-i.ensures.0),
+)
 
 pub returns : goal.returns
 returns c =

@@ -33,12 +33,11 @@ pub loop-k-smaller : goal.loop-k-smaller
 loop-k-smaller c = omega (arith, c.loop-k-test.true)
 
 pub loop-k-preserved : goal.loop-k-preserved
-loop-k-preserved c =
-    (
-      omega (arith, c.loop-k-test.true),
-      c.loop-k.invariant.1 ∙ name_here c.args.name.now c.loop-k.k c.loop-k-test.true
-          ∙ sym (on_false _ _ _ _ (sym (read c.before) ∙ c.if-same.false) refl),
-    )
+loop-k-preserved c = (
+  omega (arith, c.loop-k-test.true),
+  c.loop-k.invariant.1 ∙ name_here c.args.name.now c.loop-k.k c.loop-k-test.true
+      ∙ sym (on_false _ _ _ _ (sym (read c.before) ∙ c.if-same.false) refl),
+)
 
 pub returns : goal.returns
 returns c =

@@ -16,11 +16,10 @@ pub loop-i-smaller : goal.loop-i-smaller
 loop-i-smaller c = omega arith
 
 pub loop-i-preserved : goal.loop-i-preserved
-loop-i-preserved c =
-    (
-      omega arith,
-      taken_one c.args.self c.args.cs.now c.loop-i.i (omega arith) c.loop-i.invariant.1 c.with-more.ensures,
-    )
+loop-i-preserved c = (
+  omega arith,
+  taken_one c.args.self c.args.cs.now c.loop-i.i (omega arith) c.loop-i.invariant.1 c.with-more.ensures,
+)
 
 pub returns : goal.returns
 returns c =

@@ -5,12 +5,12 @@ use Rattle.text.proofs.parts.one_mark.Goals as goal
 
 pub returns-then-c-mark : goal.returns-then-c-mark
 returns-then-c-mark c = record {
-      value = search picks;
-      upper_bound = omega arith;
-    }
+  value = search picks;
+  upper_bound = omega arith;
+}
 
 pub returns : goal.returns
 returns c = record {
-      value = search picks;
-      upper_bound = omega arith;
-    }
+  value = search picks;
+  upper_bound = omega arith;
+}

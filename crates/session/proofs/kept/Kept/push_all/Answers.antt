@@ -18,12 +18,11 @@ pub loop-i-smaller : goal.loop-i-smaller
 loop-i-smaller c = omega arith
 
 pub loop-i-preserved : goal.loop-i-preserved
-loop-i-preserved c =
-    (
-      omega arith,
-      kept_one c.args.self c.loop-i.next c.push-more.result c.args.cs.now c.loop-i.i (omega arith) c.loop-i.invariant.1
-          c.push-more.ensures.keeping,
-    )
+loop-i-preserved c = (
+  omega arith,
+  kept_one c.args.self c.loop-i.next c.push-more.result c.args.cs.now c.loop-i.i (omega arith) c.loop-i.invariant.1
+      c.push-more.ensures.keeping,
+)
 
 pub returns : goal.returns
 returns c =
