@@ -10,14 +10,11 @@ overflow_add-result c =
     record { fits = omega (arith, k) }
 
 pub returns : goal.returns
-returns c = (
-  c.take-taken.ensures.running,
-  (
-    room_length c.args.s c.args.b c.args.at c.take-taken.result c.take-taken.new.1.0 c.args.out.now c.take-taken.ensures.runs c.requires.1
-        c.requires.0 c.take-taken.auto.1.0,
-    (
-      room_bench c.args.s c.args.b c.args.at c.take-taken.result c.take-taken.new.1.0 c.args.out.now c.take-taken.ensures.runs c.requires.1,
-      room_stands c.args.s c.args.b c.args.at c.take-taken.result c.take-taken.new.1.0 c.args.out.now c.take-taken.ensures.runs c.requires.1,
-    ),
-  ),
-)
+returns c =
+    record {
+      running_2 = c.take-taken.ensures.running;
+      length_in_bounds = room_length c.args.s c.args.b c.args.at c.take-taken.result c.take-taken.new.1.0 c.args.out.now c.take-taken.ensures.runs c.requires.1
+          c.requires.0 c.take-taken.auto.1.0;
+      runs = room_bench c.args.s c.args.b c.args.at c.take-taken.result c.take-taken.new.1.0 c.args.out.now c.take-taken.ensures.runs c.requires.1;
+      runs_2 = room_stands c.args.s c.args.b c.args.at c.take-taken.result c.take-taken.new.1.0 c.args.out.now c.take-taken.ensures.runs c.requires.1;
+    }

@@ -4,7 +4,9 @@ use Rattle.controller.proofs.FrontLaws.{reply_in, block_in}
 use Rattle.controller.proofs.front.Goals as goal
 
 pub returns : goal.returns
-returns c = (
-  c.front.ensures,
-  (reply_in c.args.buf.now c.args.n _ c.front.ensures, block_in c.args.buf.now c.args.n _ c.front.ensures),
-)
+returns c =
+    record {
+      result_value = c.front.ensures;
+      reply_in = reply_in c.args.buf.now c.args.n _ c.front.ensures;
+      block_in = block_in c.args.buf.now c.args.n _ c.front.ensures;
+    }

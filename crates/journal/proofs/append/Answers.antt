@@ -15,7 +15,12 @@ returns-then-number-ne0 c =
     let w =
     appended_not c.args.buf.now c.args.at c.args.entry c.refusal-number.result
     (c.refusal-number.ensures ∙ ap (refusal_of (length c.args.buf.now) c.args.at) c.Numbers-of.ensures) c.if-number-ne0.true in
-    (w.0, (w.1, (round_trip, write_examples)))
+    record {
+      value = w.0;
+      buf_after = w.1;
+      round_trip = round_trip;
+      write_examples = write_examples;
+    }
 
 pub write_all-next-requires : goal.write_all-next-requires
 write_all-next-requires c =
@@ -28,10 +33,9 @@ pub returns : goal.returns
 returns c =
     let w =
     appended_at c.args.buf.now c.args.at c.args.entry
-    (sym (c.refusal-number.ensures ∙ ap (refusal_of (length c.args.buf.now) c.args.at) c.Numbers-of.ensures) ∙ c.if-number-ne0.false) in (
-      (λ j. record { next = (c.write_all-next.ensures.value ∙ ap (λ ns. c.args.at + length (spell_all ns)) c.Numbers-of.ensures) j; number = 0 }) ∙ w.0,
-      (
-        c.write_all-next.ensures.buf_after ∙ ap (λ ns. put c.args.at (spell_all ns) c.args.buf.now) c.Numbers-of.ensures ∙ w.1,
-        (round_trip, write_examples),
-      ),
-    )
+    (sym (c.refusal-number.ensures ∙ ap (refusal_of (length c.args.buf.now) c.args.at) c.Numbers-of.ensures) ∙ c.if-number-ne0.false) in record {
+      value = (λ j. record { next = (c.write_all-next.ensures.value ∙ ap (λ ns. c.args.at + length (spell_all ns)) c.Numbers-of.ensures) j; number = 0 }) ∙ w.0;
+      buf_after = c.write_all-next.ensures.buf_after ∙ ap (λ ns. put c.args.at (spell_all ns) c.args.buf.now) c.Numbers-of.ensures ∙ w.1;
+      round_trip = round_trip;
+      write_examples = write_examples;
+    }

@@ -11,7 +11,11 @@ nothing-requires c = tt
 
 pub returns-then-bytes-at : goal.returns-then-bytes-at
 returns-then-bytes-at c =
-    (c.nothing.ensures ∙ at_end c.args.bytes.now c.args.at c.if-bytes-at.true, (one_spelling, read_examples))
+    record {
+      value = c.nothing.ensures ∙ at_end c.args.bytes.now c.args.at c.if-bytes-at.true;
+      one_spelling = one_spelling;
+      read_examples = read_examples;
+    }
 
 pub read_all-all-requires : goal.read_all-all-requires
 read_all-all-requires c = tt
@@ -21,12 +25,13 @@ nothing-requires-then-all-ne0 c = tt
 
 pub returns-then-all-ne0 : goal.returns-then-all-ne0
 returns-then-all-ne0 c =
-    (
-      c.nothing-then-all-ne0.ensures
+    record {
+      value = c.nothing-then-all-ne0.ensures
           ∙ read_refused c.args.bytes.now c.args.at c.read_all-all.result c.read_all-all.ensures c.if-bytes-at.false
-          c.if-all-ne0.true,
-      (one_spelling, read_examples),
-    )
+          c.if-all-ne0.true;
+      one_spelling = one_spelling;
+      read_examples = read_examples;
+    }
 
 pub entry_from-entry-requires : goal.entry_from-entry-requires
 entry_from-entry-requires c =
@@ -34,9 +39,10 @@ entry_from-entry-requires c =
 
 pub returns : goal.returns
 returns c =
-    (
-      (λ c.before.before.before.before.before. record { entry = c.entry_from-entry.ensures c.before.before.before.before.before; next = c.read_all-all.result.next; found = true; number = 0 })
+    record {
+      value = (λ c.before.before.before.before.before. record { entry = c.entry_from-entry.ensures c.before.before.before.before.before; next = c.read_all-all.result.next; found = true; number = 0 })
           ∙ read_taken c.args.bytes.now c.args.at c.read_all-all.result c.read_all-all.ensures c.if-bytes-at.false
-          c.if-all-ne0.false,
-      (one_spelling, read_examples),
-    )
+          c.if-all-ne0.false;
+      one_spelling = one_spelling;
+      read_examples = read_examples;
+    }

@@ -25,12 +25,10 @@ returns c =
     let minus : ℕ → Bool = λ k. get_or c.args.minus k false in
     let rests = cells_each c.args.switch c.args.polarity minus (λ k. pos 0) false
     c.rest.ensures c.rest-2.ensures
-    c.rest-3.ensures c.rest-4.ensures c.rest-5.ensures in (
-      rests,
-      (
-        cells_each c.args.switch c.args.polarity minus (λ k. directed (minus k) 1) true
-            c.fire.ensures c.fire-2.ensures
-            c.fire-3.ensures c.fire-4.ensures c.fire-5.ensures,
-        c.sum-still.ensures ∙ ap (λ (l : List ℕ). sum_of (λ k. get_or l k 0)) rests,
-      ),
-    )
+    c.rest-3.ensures c.rest-4.ensures c.rest-5.ensures in record {
+      rests_value = rests;
+      fires_value = cells_each c.args.switch c.args.polarity minus (λ k. directed (minus k) 1) true
+          c.fire.ensures c.fire-2.ensures
+          c.fire-3.ensures c.fire-4.ensures c.fire-5.ensures;
+      still_value = c.sum-still.ensures ∙ ap (λ (l : List ℕ). sum_of (λ k. get_or l k 0)) rests;
+    }

@@ -13,7 +13,7 @@ returns-in-Length c =
     (c.part.ensures
     ∙ (ap (part 13 0) c.front.ensures
     ∙ line_fronted c.args.request (sym (ap result_of c.in-Length.is) ∙ c.write_line-written.ensures.result_value)
-    c.write_line-written.ensures.buf_after.0))
+    c.write_line-written.ensures.buf_after))
 
 pub returns-in-Refused : goal.returns-in-Refused
 returns-in-Refused c =

@@ -9,7 +9,9 @@ use Rattle.readout.proofs.block.Goals as goal
 
 pub returns : goal.returns
 unfolding block_text
-returns c = (
-  c.figure.ensures ∙ ap (λ (f : Figures). writes c.args.text (figure_text f)) c.read-reading.ensures,
-  (replies_told, fits),
-)
+returns c =
+    record {
+      value = c.figure.ensures ∙ ap (λ (f : Figures). writes c.args.text (figure_text f)) c.read-reading.ensures;
+      replies_told = replies_told;
+      short_answers = fits;
+    }

@@ -11,10 +11,12 @@ use Rattle.screen.proofs.ShareLaws.{shares, times}
 use Rattle.screen.proofs.answer.Goals as goal
 
 pub returns : goal.returns
-returns c = (
-  λ w h q. c.shown_for.ensures.made w h q ∙ ap (λ (a : Asked). holding (shown_for (state w h) a)) c.parse_trial-asked.ensures,
-  (
-    λ w h q. subst (λ (a : Asked). length (shown_for (state w h) a) ≤ 250) c.parse_trial-asked.ensures (c.shown_for.ensures.made_2 w h q),
-    (shares, (times, (forms, screens))),
-  ),
-)
+returns c =
+    record {
+      made = λ w h q. c.shown_for.ensures.made w h q ∙ ap (λ (a : Asked). holding (shown_for (state w h) a)) c.parse_trial-asked.ensures;
+      made_2 = λ w h q. subst (λ (a : Asked). length (shown_for (state w h) a) ≤ 250) c.parse_trial-asked.ensures (c.shown_for.ensures.made_2 w h q);
+      shares = shares;
+      times = times;
+      forms = forms;
+      screens = screens;
+    }

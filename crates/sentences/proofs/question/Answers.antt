@@ -12,10 +12,12 @@ use Rattle.sentences.proofs.question.Goals as goal
 
 pub returns : goal.returns
 unfolding forms
-returns c = (
-  joined c.args.text (chars "? ") _ c.characters-mark.ensures
-      (c.row.ensures
-      ∙ ap (λ (k : ℕ). writes c.characters-mark.result (part 10 k forms))
-      c.closest-k.ensures),
-  (nearest c.args.w.now, tables),
-)
+returns c =
+    record {
+      value = joined c.args.text (chars "? ") _ c.characters-mark.ensures
+          (c.row.ensures
+          ∙ ap (λ (k : ℕ). writes c.characters-mark.result (part 10 k forms))
+          c.closest-k.ensures);
+      nearest = nearest c.args.w.now;
+      tables = tables;
+    }

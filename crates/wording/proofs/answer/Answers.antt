@@ -12,10 +12,14 @@ use Rattle.wording.proofs.WholeLaws.{whole}
 use Rattle.wording.proofs.answer.Goals as goal
 
 pub returns : goal.returns
-returns c = (
-  writes_last (holding []) (answer_text c.args.line.now) 10
-      (c.answer_text-text.ensures
-      ∙ ap (λ (t : Text). writes t (answer_text c.args.line.now)) c.new.ensures) c.with.ensures
-      ∙ writes_holding [] (answer_of c.args.line.now),
-  (whole, (answer_lines, (told, page))),
-)
+returns c =
+    record {
+      value = writes_last (holding []) (answer_text c.args.line.now) 10
+          (c.answer_text-text.ensures
+          ∙ ap (λ (t : Text). writes t (answer_text c.args.line.now)) c.new.ensures) c.with.ensures
+          ∙ writes_holding [] (answer_of c.args.line.now);
+      whole = whole;
+      answer_lines = answer_lines;
+      told = told;
+      page = page;
+    }

@@ -5,4 +5,4 @@ use Rattle.controller.proofs.power.fresh_hot.Goals as goal
 pub returns : goal.returns
 returns c =
     λ i. fresh_hot_given c.args.plan (c.fresh_run-run.ensures i) (c.general-general.ensures i)
-    (record { rests = c.axis_cells-cells.ensures.rests_value i; fires = c.axis_cells-cells.ensures.fires_value.0 i; still = c.axis_cells-cells.ensures.fires_value.1 i })
+    (record { rests = c.axis_cells-cells.ensures.rests_value i; fires = c.axis_cells-cells.ensures.fires_value i; still = c.axis_cells-cells.ensures.still_value i })

@@ -7,6 +7,6 @@ returns c =
     λ i. with_hot c.args.c (with_wires c.args.c.hot c.args.c.hot.wires.general
     (record {
       rests = c.axis_cells-cells.ensures.rests_value i;
-      fires = c.axis_cells-cells.ensures.fires_value.0 i;
-      still = c.axis_cells-cells.ensures.fires_value.1 i;
+      fires = c.axis_cells-cells.ensures.fires_value i;
+      still = c.axis_cells-cells.ensures.still_value i;
     }))

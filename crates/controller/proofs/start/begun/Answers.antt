@@ -6,6 +6,6 @@ pub returns : goal.returns
 returns c =
     λ i. begun_given c.args.next c.args.hot c.args.master (record {
       rests = c.axis_cells-cells.ensures.rests_value i;
-      fires = c.axis_cells-cells.ensures.fires_value.0 i;
-      still = c.axis_cells-cells.ensures.fires_value.1 i;
+      fires = c.axis_cells-cells.ensures.fires_value i;
+      still = c.axis_cells-cells.ensures.still_value i;
     })

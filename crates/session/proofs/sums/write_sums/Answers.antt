@@ -63,7 +63,7 @@ pub loop-k-preserved : goal.loop-k-preserved
 loop-k-preserved c =
     let f : SFits w32 (get_or c.args.sums c.loop-k.k (pos 0)) = search (rules, elem_sfits) in (
       omega (arith, c.loop-k-test.true),
-      omega (arith, c.loop-k.invariant.1, c.write_item-at.ensures.buf_after.1),
+      omega (arith, c.loop-k.invariant.1, c.write_item-at.ensures.upper_bound),
       c.loop-k.invariant.2,
       c.write_item-at.auto.0 ∙ c.loop-k.invariant.3,
       next_written c.args.sums c.args.buf.now c.loop-k.k c.loop-k.at c.write_item-at.result
@@ -72,7 +72,7 @@ loop-k-preserved c =
           c.loop-k.invariant.4.0 c.loop-k.invariant.4.1
           (answered is_minus w32 _ _ f c.is_minus-minus.ensures)
           (answered nat_abs w32 _ _ f c.size-n.ensures)
-          c.write_item-at.ensures.value c.write_item-at.ensures.buf_after.0,
+          c.write_item-at.ensures.value c.write_item-at.ensures.buf_after,
     )
 
 pub shape_of-buf : goal.shape_of-buf

@@ -23,14 +23,13 @@ loop-i-init c = (
 )
 
 pub ticked-next-requires : goal.ticked-next-requires
-ticked-next-requires c = (
-  c.loop-i.invariant.1,
-  (
-    sums_small c.loop-i.invariant.2.switch c.args.word c.loop-i.invariant.2.history c.loop-i.i _
-        (ap (λ x. x.sums) (c.loop-i.invariant.5 c.loop-i.invariant.2.switch c.loop-i.invariant.2.history c.loop-i.invariant.2.made)),
-    c.loop-i.invariant.3,
-  ),
-)
+ticked-next-requires c =
+    record {
+      reachable = c.loop-i.invariant.1;
+      small = sums_small c.loop-i.invariant.2.switch c.args.word c.loop-i.invariant.2.history c.loop-i.i _
+          (ap (λ x. x.sums) (c.loop-i.invariant.5 c.loop-i.invariant.2.switch c.loop-i.invariant.2.history c.loop-i.invariant.2.made));
+      in_bounds = c.loop-i.invariant.3;
+    }
 
 pub overflow_add-i : goal.overflow_add-i
 overflow_add-i c = omega arith

@@ -6,4 +6,8 @@ use Rattle.session.proofs.state.Session.new.Goals as goal
 pub returns : goal.returns
 returns c =
     let t = fresh_told _ _ c.opened-controller.ensures c.new-kept.ensures in
-    (t.0, (t.1, lines))
+    record {
+      value = t.0;
+      running = t.1;
+      lines = lines;
+    }
