@@ -110,8 +110,7 @@ fn call(was: Played, kind: u8, value: u32, count: u32) -> Played
 }
 
 // The digest of all answers to the calls, after power-on with the switch.
-#[unsafe(no_mangle)]
-pub extern "C" fn temixohuel_replay(switch: u8, calls: &[u8]) -> u32
+pub fn temixohuel_replay(switch: u8, calls: &[u8]) -> u32
     ensures { result ≡ replayed switch calls.now }
 {
     let n = calls.len() / CALL;

@@ -81,8 +81,7 @@ fn shown(ran: Ticked) -> Trial
 // What a plain start and so many ticks would leave. Its numbers for every machine, what the line means, that the end is
 // the first and the rest alters nothing, that the bench itself would come to the same, and computed trials, stand here
 // as promises.
-#[unsafe(no_mangle)]
-pub extern "C" fn temixohuel_trial(c: Controller, master: u32, word: u32, ticks: u32) -> Trial
+pub fn temixohuel_trial(c: Controller, master: u32, word: u32, ticks: u32) -> Trial
     requires { Reachable c }
     ensures made { Made c (λ m. result ≡ trial_of m master word ticks) }
     ensures numbers { Numbers }
