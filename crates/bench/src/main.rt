@@ -1,14 +1,17 @@
 // The bench program (paper 01, "Host end and program"): reads standard input to its end, and writes what the bytes of a
 // read print, at once, before it reads on. What the bytes do and print is the proved work of `session` and `console`.
-// Its stored test is the session that paper 01 prints. Assumes nothing beyond the contracts of the C functions that
-// read and write.
+// Its stored test is the session that paper 01 prints. Assumes nothing: of what is read and written no contract of the
+// library says anything.
 #![tactic(auto)]
 
 ghost use Rattle.session.specs.Session.{Running};
 
 use block::REPLY_ROOM;
-use libc::{STDERR_FILENO, STDIN_FILENO, STDOUT_FILENO};
 use session::Session;
+use std::io::Read;
+
+// The buffer for the bytes of a read.
+const ROOM: usize = 4096;
 
 // What is to be done after a read.
 #[derive(Clone, Copy)]
@@ -29,26 +32,24 @@ struct Turn {
 }
 
 // Reads once, and takes what came.
-fn read_once(s: Session) -> Turn
+fn read_once(rt: &impl Print, input: &mut impl Read, s: Session) -> Turn
     requires { Running s }
     ensures { Running result.session }
 {
-    let mut buf = io::buffer();
-    let got = libc::read(STDIN_FILENO, &mut buf);
-    if got < 0 {
+    let mut buf = [0u8; ROOM];
+    let Ok(n) = input.read(&mut buf) else {
         return Turn {
             session: s,
             next: Next::Stop,
         };
-    }
-    if got == 0 {
+    };
+    if n == 0 {
         return Turn {
             session: s,
             next: Next::Finish,
         };
     }
-    let n = io::count(got, &buf);
-    let passed = console::pass_all(s, &buf[..n]);
+    let passed = console::pass_all(rt, s, &buf[..n]);
     let session = passed.session;
     if passed.written {
         return Turn {
@@ -62,22 +63,20 @@ fn read_once(s: Session) -> Turn
     }
 }
 
-// Reads until nothing is left to read. A proved loop has to end, and nothing says that the input does: the turns are
-// counted down from a number that no run uses up.
-fn read_all(s: Session) -> Turn
+// Reads until nothing is left to read. A proved loop has to end, and nothing says that the input does: it has a number
+// of turns that no run uses up.
+fn read_all(rt: &impl Print, input: &mut impl Read, s: Session) -> Turn
     requires { Running s }
     ensures { Running result.session }
 {
     let mut session = s;
-    let mut turns = u64::MAX;
-    while 0 < turns {
-        let turn = read_once(session);
+    for _ in 0..u64::MAX {
+        let turn = read_once(rt, input, session);
         let next = turn.next;
         match next {
             Next::Read => {
                 let read = turn.session;
                 session = read;
-                turns -= 1;
             }
             Next::Finish => {
                 return turn;
@@ -94,27 +93,27 @@ fn read_all(s: Session) -> Turn
 }
 
 // The end of the input.
-fn finish(s: Session) -> bool
+fn finish(rt: &impl Print, s: Session) -> bool
     requires { Running s }
 {
     let mut buf = [0u8; REPLY_ROOM];
     let taken = s.finish(&mut buf);
-    io::write_all(STDOUT_FILENO, block::front(&buf, taken.length))
+    rt.write_all(block::front(&buf, taken.length)).is_ok()
 }
 
 // Power-on with switch 0 and the host's first line, the whole input, and its end. A program has no exit status of its
 // own, so a word on standard error says that it stopped before the end.
-fn main() {
+fn main(rt: HostRuntime) {
     let start = Session::new();
-    let turn = read_all(start);
+    let turn = read_all(&rt, &mut rt.stdin(), start);
     let session = turn.session;
     let next = turn.next;
     let done = match next {
-        Next::Finish => finish(session),
+        Next::Finish => finish(&rt, session),
         Next::Read => false,
         Next::Stop => false,
     };
     if !done {
-        io::write_all(STDERR_FILENO, b"bench: stopped, input or output failed\n");
+        let _ = eprintln!(rt; "bench: stopped, input or output failed");
     }
 }

@@ -1,7 +1,7 @@
 // What the bench program does with the bytes of a read (paper 01, "Host end and program"): all are taken, each once and
 // in order, and what they print is written at once. What the bytes do is the proved work of `session`; here what they
 // print is put into a buffer, one behind another, and written out. All that is handed to the call that writes is
-// stated. Assumes nothing beyond the contract of the C function that writes.
+// stated. Assumes nothing: of what the output does with it no contract of the library says anything.
 #![tactic(auto)]
 
 ghost use Rattle.std.specs.Prelude.{◌+◌, ◌≤◌, ◌<◌, ◌≡◌, length, take};
@@ -10,8 +10,10 @@ ghost use Rattle.session.specs.Session.{taken, held_bench, Running, Runs};
 ghost use Rattle.console.specs.Console.{Stands, line_length, Fills};
 
 use block::REPLY_ROOM;
-use libc::STDOUT_FILENO;
 use session::Session;
+
+// The buffer for what the bytes of a read print.
+const ROOM: usize = 65536;
 
 // The session after some bytes, and where what they print ends in the buffer.
 #[derive(Drop)]
@@ -37,15 +39,15 @@ pub struct Passed {
 
 // Writes a text, and answers whether the output took it. Once it has failed nothing more is written, so that what was
 // written is a first part of what is printed. The session and the bytes are there for the premise alone, that the text
-// is what they print: no contract can say what the C function wrote.
-fn print(written: bool, s: Session, bytes: &[u8], text: &[u8]) -> bool
+// is what they print: no contract can say what the output was given.
+fn print(rt: &impl Print, written: bool, s: Session, bytes: &[u8], text: &[u8]) -> bool
     requires running { Running s }
     requires runs { Runs s (λ x. text.now ≡ printed_by x bytes.now) }
 {
     if !written {
         return false;
     }
-    io::write_all(STDOUT_FILENO, text)
+    rt.write_all(text).is_ok()
 }
 
 // One byte of the input. What it prints stands in `out` behind the `at` bytes that stand there.
@@ -126,12 +128,12 @@ fn fill(s: Session, out: &mut [u8], bytes: &[u8]) -> Line
 }
 
 // The bytes of a read. What they print is written at once; in parts only where it is longer than the buffer.
-pub fn pass_all(s: Session, bytes: &[u8]) -> Passed
+pub fn pass_all(rt: &impl Print, s: Session, bytes: &[u8]) -> Passed
     requires { Running s }
     ensures running { Running result.session }
     ensures runs { Runs s (λ x. result.session ≡ held_bench (after x bytes.now)) }
 {
-    let mut out = io::large_buffer();
+    let mut out = [0u8; ROOM];
     let mut session = s;
     let mut written = true;
     let mut i = 0;
@@ -139,7 +141,7 @@ pub fn pass_all(s: Session, bytes: &[u8]) -> Passed
         let filled = fill(session, &mut out, &bytes[i..]);
         let end = i + filled.count;
         let text = block::front(&out, filled.length);
-        written = print(written, session, &bytes[i..end], text);
+        written = print(rt, written, session, &bytes[i..end], text);
         let next = filled.session;
         session = next;
         i = end;

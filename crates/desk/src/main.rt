@@ -1,11 +1,14 @@
 // The program `desk`, the host end for people (docs/PROTOCOL.md, "From words"): reads standard input to its end and
-// answers each line at once. What it answers is the proved work of `wording`. Assumes nothing beyond the contracts of
-// the C functions that read and write.
+// answers each line at once. What it answers is the proved work of `wording`. Assumes nothing: of what is read and
+// written no contract of the library says anything.
 #![tactic(auto)]
 
-use libc::{STDERR_FILENO, STDIN_FILENO, STDOUT_FILENO};
+use std::io::Read;
 use text::Text;
 use wording::Desk;
+
+// The buffer for the bytes of a read.
+const ROOM: usize = 4096;
 
 // What is to be done after a read.
 #[derive(Clone, Copy)]
@@ -34,22 +37,22 @@ struct Turn {
 
 // Writes a text, and answers whether the output took it. Once it has failed nothing more is written, so that what was
 // written is a first part of what is printed.
-fn print(written: bool, text: Text) -> bool {
+fn print(rt: &impl Print, written: bool, text: Text) -> bool {
     if !written {
         return false;
     }
     let chars = text.chars;
     let n = text.count as usize;
-    io::write_all(STDOUT_FILENO, block::front(&chars, n))
+    rt.write_all(block::front(&chars, n)).is_ok()
 }
 
 // One byte: what it prints is written at once.
-fn pass(before: Passed, b: u8) -> Passed {
+fn pass(rt: &impl Print, before: Passed, b: u8) -> Passed {
     let desk = before.desk;
     let taken = desk.take(b);
     let next = taken.desk;
     let text = taken.text;
-    let written = print(before.written, text);
+    let written = print(rt, before.written, text);
     Passed {
         desk: next,
         written,
@@ -57,14 +60,14 @@ fn pass(before: Passed, b: u8) -> Passed {
 }
 
 // The bytes of a read, one after another.
-fn pass_all(desk: Desk, bytes: &[u8]) -> Passed {
+fn pass_all(rt: &impl Print, desk: Desk, bytes: &[u8]) -> Passed {
     let mut passed = Passed {
         desk,
         written: true,
     };
     let mut i = 0;
     while i < bytes.len() {
-        let next = pass(passed, bytes[i]);
+        let next = pass(rt, passed, bytes[i]);
         passed = next;
         i += 1;
     }
@@ -72,23 +75,21 @@ fn pass_all(desk: Desk, bytes: &[u8]) -> Passed {
 }
 
 // Reads once, and takes what came.
-fn read_once(desk: Desk) -> Turn {
-    let mut buf = io::buffer();
-    let got = libc::read(STDIN_FILENO, &mut buf);
-    if got < 0 {
+fn read_once(rt: &impl Print, input: &mut impl Read, desk: Desk) -> Turn {
+    let mut buf = [0u8; ROOM];
+    let Ok(n) = input.read(&mut buf) else {
         return Turn {
             desk,
             next: Next::Stop,
         };
-    }
-    if got == 0 {
+    };
+    if n == 0 {
         return Turn {
             desk,
             next: Next::Finish,
         };
     }
-    let n = io::count(got, &buf);
-    let passed = pass_all(desk, &buf[..n]);
+    let passed = pass_all(rt, desk, &buf[..n]);
     let after = passed.desk;
     if passed.written {
         return Turn {
@@ -102,19 +103,17 @@ fn read_once(desk: Desk) -> Turn {
     }
 }
 
-// Reads until nothing is left to read. A proved loop has to end, and nothing says that the input does: the turns are
-// counted down from a number that no run uses up.
-fn read_all(before: Desk) -> Turn {
+// Reads until nothing is left to read. A proved loop has to end, and nothing says that the input does: it has a number
+// of turns that no run uses up.
+fn read_all(rt: &impl Print, input: &mut impl Read, before: Desk) -> Turn {
     let mut desk = before;
-    let mut turns = u64::MAX;
-    while 0 < turns {
-        let turn = read_once(desk);
+    for _ in 0..u64::MAX {
+        let turn = read_once(rt, input, desk);
         let next = turn.next;
         match next {
             Next::Read => {
                 let read = turn.desk;
                 desk = read;
-                turns -= 1;
             }
             Next::Finish => {
                 return turn;
@@ -132,17 +131,17 @@ fn read_all(before: Desk) -> Turn {
 
 // The whole input, and its end. A program has no exit status of its own, so a word on standard error says that it
 // stopped before the end.
-fn main() {
+fn main(rt: HostRuntime) {
     let start = Desk::new();
-    let turn = read_all(start);
+    let turn = read_all(&rt, &mut rt.stdin(), start);
     let desk = turn.desk;
     let next = turn.next;
     let done = match next {
-        Next::Finish => print(true, desk.finish()),
+        Next::Finish => print(&rt, true, desk.finish()),
         Next::Read => false,
         Next::Stop => false,
     };
     if !done {
-        io::write_all(STDERR_FILENO, b"desk: stopped, input or output failed\n");
+        let _ = eprintln!(rt; "desk: stopped, input or output failed");
     }
 }

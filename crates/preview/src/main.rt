@@ -1,16 +1,19 @@
 // The program `preview` (paper 02, 5/14; docs/PROTOCOL.md, "A dose on screen first"): reads standard input to its end,
 // tells in words what the bench would print to each line, and shows what a trial would leave. What is answered is the
-// proved work of `session`, `wording` and `screen`. Assumes nothing beyond the contracts of the C functions that read
-// and write.
+// proved work of `session`, `wording` and `screen`. Assumes nothing: of what is read and written no contract of the
+// library says anything.
 #![tactic(auto)]
 
 ghost use Rattle.session.specs.Session.{Running};
 
 use crate::passing::Preview;
-use libc::{STDERR_FILENO, STDIN_FILENO};
+use std::io::Read;
 
 mod passing;
 mod telling;
+
+// The buffer for the bytes of a read.
+const ROOM: usize = 4096;
 
 // What is to be done after a read.
 #[derive(Clone, Copy)]
@@ -31,26 +34,24 @@ struct Turn {
 }
 
 // Reads once, and takes what came.
-fn read_once(preview: Preview) -> Turn
+fn read_once(rt: &impl Print, input: &mut impl Read, preview: Preview) -> Turn
     requires { Running preview.session }
     ensures { Running result.preview.session }
 {
-    let mut buf = io::buffer();
-    let got = libc::read(STDIN_FILENO, &mut buf);
-    if got < 0 {
+    let mut buf = [0u8; ROOM];
+    let Ok(n) = input.read(&mut buf) else {
         return Turn {
             preview,
             next: Next::Stop,
         };
-    }
-    if got == 0 {
+    };
+    if n == 0 {
         return Turn {
             preview,
             next: Next::Finish,
         };
     }
-    let n = io::count(got, &buf);
-    let passed = passing::pass_all(preview, &buf[..n]);
+    let passed = passing::pass_all(rt, preview, &buf[..n]);
     let after = passed.preview;
     if passed.written {
         return Turn {
@@ -64,22 +65,20 @@ fn read_once(preview: Preview) -> Turn
     }
 }
 
-// Reads until nothing is left to read. A proved loop has to end, and nothing says that the input does: the turns are
-// counted down from a number that no run uses up.
-fn read_all(before: Preview) -> Turn
+// Reads until nothing is left to read. A proved loop has to end, and nothing says that the input does: it has a number
+// of turns that no run uses up.
+fn read_all(rt: &impl Print, input: &mut impl Read, before: Preview) -> Turn
     requires { Running before.session }
     ensures { Running result.preview.session }
 {
     let mut preview = before;
-    let mut turns = u64::MAX;
-    while 0 < turns {
-        let turn = read_once(preview);
+    for _ in 0..u64::MAX {
+        let turn = read_once(rt, input, preview);
         let next = turn.next;
         match next {
             Next::Read => {
                 let read = turn.preview;
                 preview = read;
-                turns -= 1;
             }
             Next::Finish => {
                 return turn;
@@ -97,17 +96,17 @@ fn read_all(before: Preview) -> Turn
 
 // The whole input, and its end. A program has no exit status of its own, so a word on standard error says that it
 // stopped before the end.
-fn main() {
+fn main(rt: HostRuntime) {
     let start = passing::fresh();
-    let turn = read_all(start);
+    let turn = read_all(&rt, &mut rt.stdin(), start);
     let preview = turn.preview;
     let next = turn.next;
     let done = match next {
-        Next::Finish => passing::finish(preview),
+        Next::Finish => passing::finish(&rt, preview),
         Next::Read => false,
         Next::Stop => false,
     };
     if !done {
-        io::write_all(STDERR_FILENO, b"preview: stopped, input or output failed\n");
+        let _ = eprintln!(rt; "preview: stopped, input or output failed");
     }
 }

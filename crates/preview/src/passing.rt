@@ -1,6 +1,6 @@
 // What preview does with a byte (docs/PROTOCOL.md, "A dose on screen first"): a line that begins with D is kept and
 // answered by `screen`, and nothing of it goes in; every other byte goes to the bench, and what that would print is
-// told in words. Assumes nothing beyond the contract of the C function that writes.
+// told in words. Assumes nothing.
 ghost use Rattle.session.specs.Session.{Running};
 
 use crate::telling;
@@ -45,7 +45,7 @@ pub(crate) fn fresh() -> Preview
 }
 
 // A byte that goes to the bench.
-fn send(before: Passed, b: u8) -> Passed
+fn send(rt: &impl Print, before: Passed, b: u8) -> Passed
     requires { Running before.preview.session }
     ensures { Running result.preview.session }
 {
@@ -55,7 +55,7 @@ fn send(before: Passed, b: u8) -> Passed
     let taken = bench.take(&mut buf, b);
     let session = taken.session;
     let was = preview.desk;
-    let told = telling::tell(before.written, was, block::front(&buf, taken.length));
+    let told = telling::tell(rt, before.written, was, block::front(&buf, taken.length));
     let desk = told.desk;
     let line = Text::new();
     let preview = Preview {
@@ -71,18 +71,18 @@ fn send(before: Passed, b: u8) -> Passed
 }
 
 // The answer to the line that begins with D.
-fn answer(written: bool, session: Session, line: Text) -> bool
+fn answer(rt: &impl Print, written: bool, session: Session, line: Text) -> bool
     requires { Running session }
 {
     let controller = session.controller();
     let chars = line.chars;
     let n = line.count as usize;
     let text = screen::answer(controller, block::front(&chars, n));
-    telling::print(written, text)
+    telling::print(rt, written, text)
 }
 
 // A byte of the line that begins with D.
-fn keep(before: Passed, b: u8) -> Passed
+fn keep(rt: &impl Print, before: Passed, b: u8) -> Passed
     requires { Running before.preview.session }
     ensures { Running result.preview.session }
 {
@@ -93,7 +93,7 @@ fn keep(before: Passed, b: u8) -> Passed
     let mut line = so_far.with(b);
     let mut written = before.written;
     if b == FEED {
-        written = answer(written, session, so_far);
+        written = answer(rt, written, session, so_far);
         line = Text::new();
     }
     let preview = Preview {
@@ -118,19 +118,19 @@ fn keeps(preview: Preview, b: u8) -> bool {
 }
 
 // One byte.
-fn pass(before: Passed, b: u8) -> Passed
+fn pass(rt: &impl Print, before: Passed, b: u8) -> Passed
     requires { Running before.preview.session }
     ensures { Running result.preview.session }
 {
     let preview = before.preview;
     if keeps(preview, b) {
-        return keep(before, b);
+        return keep(rt, before, b);
     }
-    send(before, b)
+    send(rt, before, b)
 }
 
 // The bytes of a read, one after another.
-pub(crate) fn pass_all(preview: Preview, bytes: &[u8]) -> Passed
+pub(crate) fn pass_all(rt: &impl Print, preview: Preview, bytes: &[u8]) -> Passed
     requires { Running preview.session }
     ensures { Running result.preview.session }
 {
@@ -140,7 +140,7 @@ pub(crate) fn pass_all(preview: Preview, bytes: &[u8]) -> Passed
     };
     let mut i = 0;
     while i < bytes.len() {
-        let next = pass(passed, bytes[i]);
+        let next = pass(rt, passed, bytes[i]);
         passed = next;
         i += 1;
     }
@@ -148,17 +148,17 @@ pub(crate) fn pass_all(preview: Preview, bytes: &[u8]) -> Passed
 }
 
 // The end of the input, whose last line may lack its line feed; and whether the output took what that prints.
-pub(crate) fn finish(preview: Preview) -> bool
+pub(crate) fn finish(rt: &impl Print, preview: Preview) -> bool
     requires { Running preview.session }
 {
     let session = preview.session;
     let line = preview.line;
     if line.count != 0 {
-        return answer(true, session, line);
+        return answer(rt, true, session, line);
     }
     let mut buf = [0u8; REPLY_ROOM];
     let taken = session.finish(&mut buf);
     let desk = preview.desk;
-    let told = telling::tell(true, desk, block::front(&buf, taken.length));
+    let told = telling::tell(rt, true, desk, block::front(&buf, taken.length));
     told.written
 }

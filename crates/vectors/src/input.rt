@@ -1,7 +1,13 @@
 // A file, line by line: each is given to the program that runs.
+ghost use Rattle.std.specs.Prelude.{◌≤◌, length};
+
 use crate::lists::List;
 use crate::text::FEED;
 use crate::{host_end, lists, text};
+use std::io::Read;
+
+// The buffer for the bytes of a read.
+const ROOM: usize = 4096;
 
 // The most characters of a line.
 const LONGEST: usize = 100;
@@ -29,7 +35,13 @@ struct Turn {
 }
 
 // A whole line.
-fn take_line(program: Program, list: List, calls: &mut [u8; lists::ROOM], line: &[u8]) -> List {
+fn take_line(
+    rt: &impl Print,
+    program: Program,
+    list: List,
+    calls: &mut [u8; lists::ROOM],
+    line: &[u8],
+) -> List {
     if line.len() == 0 {
         return list;
     }
@@ -37,31 +49,42 @@ fn take_line(program: Program, list: List, calls: &mut [u8; lists::ROOM], line: 
         return list;
     }
     match program {
-        Program::Lists => lists::take(list, calls, line),
+        Program::Lists => lists::take(rt, list, calls, line),
         Program::HostEnd => {
-            host_end::answer(line).print();
+            host_end::answer(line).print(rt);
             list
         }
     }
 }
 
 // The end of a line.
-fn end_line(program: Program, stand: Stand, calls: &mut [u8; lists::ROOM]) -> List {
+fn end_line(
+    rt: &impl Print,
+    program: Program,
+    stand: Stand,
+    calls: &mut [u8; lists::ROOM],
+) -> List {
     let list = stand.list;
     let n = stand.length;
     if LONGEST < n {
-        text::question().print();
+        text::question().print(rt);
         return list;
     }
     let chars = stand.chars;
-    take_line(program, list, calls, block::front(&chars, n))
+    take_line(rt, program, list, calls, block::front(&chars, n))
 }
 
-fn take_byte(program: Program, stand: Stand, calls: &mut [u8; lists::ROOM], b: u8) -> Stand {
+fn take_byte(
+    rt: &impl Print,
+    program: Program,
+    stand: Stand,
+    calls: &mut [u8; lists::ROOM],
+    b: u8,
+) -> Stand {
     let mut next = stand;
     let n = stand.length;
     if b == FEED {
-        let list = end_line(program, stand, calls);
+        let list = end_line(rt, program, stand, calls);
         next.list = list;
         next.length = 0;
         return next;
@@ -75,11 +98,17 @@ fn take_byte(program: Program, stand: Stand, calls: &mut [u8; lists::ROOM], b: u
     next
 }
 
-fn take_all(program: Program, was: Stand, calls: &mut [u8; lists::ROOM], bytes: &[u8]) -> Stand {
+fn take_all(
+    rt: &impl Print,
+    program: Program,
+    was: Stand,
+    calls: &mut [u8; lists::ROOM],
+    bytes: &[u8],
+) -> Stand {
     let mut stand = was;
     let mut i = 0;
     while i < bytes.len() {
-        let next = take_byte(program, stand, calls, bytes[i]);
+        let next = take_byte(rt, program, stand, calls, bytes[i]);
         stand = next;
         i += 1;
     }
@@ -87,30 +116,41 @@ fn take_all(program: Program, was: Stand, calls: &mut [u8; lists::ROOM], bytes: 
 }
 
 // Reads once, and takes what came.
-fn read_once(program: Program, file: i32, stand: Stand, calls: &mut [u8; lists::ROOM]) -> Turn {
-    let mut buf = io::buffer();
-    let got = libc::read(file, &mut buf);
-    if got <= 0 {
+fn read_once(
+    rt: &impl Print,
+    program: Program,
+    file: &mut impl Read,
+    stand: Stand,
+    calls: &mut [u8; lists::ROOM],
+) -> Turn {
+    let mut buf = [0u8; ROOM];
+    let Ok(n) = file.read(&mut buf) else {
+        return Turn { stand, more: false };
+    };
+    if n == 0 {
         return Turn { stand, more: false };
     }
-    let n = io::count(got, &buf);
-    let next = take_all(program, stand, calls, &buf[..n]);
+    let next = take_all(rt, program, stand, calls, &buf[..n]);
     Turn {
         stand: next,
         more: true,
     }
 }
 
-// Reads to the end. A proved loop has to end, and nothing says that the input does: the turns are counted down from a
-// number that no run uses up.
-fn read_all(program: Program, file: i32, was: Stand, calls: &mut [u8; lists::ROOM]) -> Stand {
+// Reads to the end. A proved loop has to end, and nothing says that the input does: it has a number of turns that no
+// run uses up.
+fn read_all(
+    rt: &impl Print,
+    program: Program,
+    file: &mut impl Read,
+    was: Stand,
+    calls: &mut [u8; lists::ROOM],
+) -> Stand {
     let mut stand = was;
-    let mut turns = u64::MAX;
-    while 0 < turns {
-        let t = read_once(program, file, stand, calls);
+    for _ in 0..u64::MAX {
+        let t = read_once(rt, program, file, stand, calls);
         let next = t.stand;
         stand = next;
-        turns -= 1;
         if !t.more {
             return stand;
         }
@@ -118,8 +158,23 @@ fn read_all(program: Program, file: i32, was: Stand, calls: &mut [u8; lists::ROO
     stand
 }
 
+// Reads until `buf` is full, the input ends or a read fails, and answers how many bytes it put at the start of `buf`.
+pub(crate) fn read_full(file: &mut impl Read, buf: &mut [u8]) -> usize
+    ensures { result ≤ length buf.new }
+{
+    let mut done = 0;
+    while done < buf.len() {
+        let n = file.read(&mut buf[done..]).unwrap_or(0);
+        if n == 0 {
+            break;
+        }
+        done += n;
+    }
+    done
+}
+
 // The whole input; its last line may lack the line feed.
-pub(crate) fn run(program: Program, file: i32) {
+pub(crate) fn run(rt: &impl Print, program: Program, file: &mut impl Read) {
     let mut calls = [0u8; lists::ROOM];
     let list = List {
         count: 0,
@@ -131,6 +186,6 @@ pub(crate) fn run(program: Program, file: i32) {
         chars: [0; LONGEST],
         length: 0,
     };
-    let stand = read_all(program, file, fresh, &mut calls);
-    end_line(program, stand, &mut calls);
+    let stand = read_all(rt, program, file, fresh, &mut calls);
+    end_line(rt, program, stand, &mut calls);
 }

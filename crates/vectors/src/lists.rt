@@ -41,10 +41,17 @@ fn store(calls: &mut [u8; ROOM], at: usize, v: u32)
 }
 
 // One call more.
-fn gather(list: List, calls: &mut [u8; ROOM], kind: u8, value: u32, count: u32) -> List {
+fn gather(
+    rt: &impl Print,
+    list: List,
+    calls: &mut [u8; ROOM],
+    kind: u8,
+    value: u32,
+    count: u32,
+) -> List {
     let n = list.count;
     if MOST <= n {
-        text::question().print();
+        text::question().print(rt);
         return list;
     }
     let at = 9 * n;
@@ -59,59 +66,59 @@ fn gather(list: List, calls: &mut [u8; ROOM], kind: u8, value: u32, count: u32) 
 }
 
 // A received byte with so many bytes lent.
-fn gather_byte(list: List, calls: &mut [u8; ROOM], b: u8, lent: u8) -> List {
-    gather(list, calls, BYTE, b as u32, lent as u32)
+fn gather_byte(rt: &impl Print, list: List, calls: &mut [u8; ROOM], b: u8, lent: u8) -> List {
+    gather(rt, list, calls, BYTE, b as u32, lent as u32)
 }
 
 // The characters of a line and its 0D as received bytes.
-fn gather_line(was: List, calls: &mut [u8; ROOM], line: &[u8]) -> List {
+fn gather_line(rt: &impl Print, was: List, calls: &mut [u8; ROOM], line: &[u8]) -> List {
     let mut list = was;
     let mut i = 0;
     while i < line.len() {
-        let next = gather_byte(list, calls, line[i], LENT);
+        let next = gather_byte(rt, list, calls, line[i], LENT);
         list = next;
         i += 1;
     }
-    gather_byte(list, calls, END, LENT)
+    gather_byte(rt, list, calls, END, LENT)
 }
 
 // A line `L text`, or one of no form. The 0D is one call more than the text has characters.
-fn take_text(list: List, calls: &mut [u8; ROOM], line: &[u8]) -> List {
+fn take_text(rt: &impl Print, list: List, calls: &mut [u8; ROOM], line: &[u8]) -> List {
     let n = list.count;
     if 2 < line.len() {
         if line[0] == b'L' && line[1] == b' ' {
             if n <= MOST {
                 if line.len() - 1 <= MOST - n {
-                    return gather_line(list, calls, &line[2..]);
+                    return gather_line(rt, list, calls, &line[2..]);
                 }
             }
         }
     }
-    text::question().print();
+    text::question().print(rt);
     list
 }
 
-fn play_each(calls: &[u8], first: u8, last: u8) {
+fn play_each(rt: &impl Print, calls: &[u8], first: u8, last: u8) {
     for switch in first..=last {
         let digest = replay::temixohuel_replay(switch, calls);
         Text::new()
             .byte(switch)
             .with(b' ')
             .hex(digest as u64, 8)
-            .print();
+            .print(rt);
     }
 }
 
 // The list played for each of its switches.
-fn play(list: List, calls: &[u8]) {
+fn play(rt: &impl Print, list: List, calls: &[u8]) {
     let n = list.count;
     if n <= MOST {
-        play_each(block::front(calls, 9 * n), list.first, list.last);
+        play_each(rt, block::front(calls, 9 * n), list.first, list.last);
     }
 }
 
 // A line that begins a list, gathers the readings or plays; or one of another form.
-fn take_other(list: List, calls: &mut [u8; ROOM], line: &[u8]) -> List {
+fn take_other(rt: &impl Print, list: List, calls: &mut [u8; ROOM], line: &[u8]) -> List {
     if form::fits(line, b"S hh hh") {
         return List {
             count: 0,
@@ -120,27 +127,27 @@ fn take_other(list: List, calls: &mut [u8; ROOM], line: &[u8]) -> List {
         };
     }
     if form::fits(line, b"R") {
-        return gather(list, calls, READINGS, 0, 0);
+        return gather(rt, list, calls, READINGS, 0, 0);
     }
     if form::fits(line, b"E") {
-        play(list, calls);
+        play(rt, list, calls);
         return list;
     }
-    take_text(list, calls, line)
+    take_text(rt, list, calls, line)
 }
 
 // A line of the page.
-pub(crate) fn take(list: List, calls: &mut [u8; ROOM], line: &[u8]) -> List {
+pub(crate) fn take(rt: &impl Print, list: List, calls: &mut [u8; ROOM], line: &[u8]) -> List {
     if form::fits(line, b"B hh hh") {
-        return gather_byte(list, calls, form::byte(line, 2), form::byte(line, 5));
+        return gather_byte(rt, list, calls, form::byte(line, 2), form::byte(line, 5));
     }
     if form::fits(line, b"T hhhhhh hhhhhhhh") {
         let word = form::number(line, 9, 17);
-        return gather(list, calls, TICKS, word, form::number(line, 2, 8));
+        return gather(rt, list, calls, TICKS, word, form::number(line, 2, 8));
     }
     if form::fits(line, b"K hhhhhhhh hh") {
         let word = form::number(line, 2, 10);
-        return gather(list, calls, TICK, word, form::byte(line, 11) as u32);
+        return gather(rt, list, calls, TICK, word, form::byte(line, 11) as u32);
     }
-    take_other(list, calls, line)
+    take_other(rt, list, calls, line)
 }

@@ -1,8 +1,6 @@
 // A line of output, made piece by piece. What has no room is dropped; no line of the page comes near that.
 ghost use Rattle.std.specs.Prelude.{◌≤◌};
 
-use libc::STDOUT_FILENO;
-
 // The longest line and its line feed.
 const ROOM: usize = 160;
 
@@ -72,11 +70,11 @@ impl Text {
     }
 
     // Written to standard output with a line feed.
-    pub(crate) fn print(self) {
+    pub(crate) fn print(self, rt: &impl Print) {
         let line = self.with(FEED);
         let bytes = line.bytes;
         let printed = block::front(&bytes, line.length);
-        io::write_all(STDOUT_FILENO, printed);
+        let _ = rt.write_all(printed);
     }
 }
 
