@@ -1,3 +1,4 @@
+pub mod TellsLaws
 pub mod Laws
 pub mod Six
 pub mod CharacterLaws
