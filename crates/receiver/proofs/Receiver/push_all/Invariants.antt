@@ -7,7 +7,7 @@ use Rattle.receiver.specs.Receiver.{push_all}
 use Rattle.receiver.proofs.Receiver.push_all.Given as goal
 
 abbrev pub invariant-loop-i : goal.invariant-loop-i
-invariant-loop-i l = (l.i ≤ length l.cs) × (push_all l.initial.i (drop l.i l.cs) ≡ push_all l.initial.next l.cs)
+invariant-loop-i l = (l.i ≤ length l.cs) × (push_all l.next (drop l.i l.cs) ≡ push_all l.initial.next l.cs)
 
 abbrev pub decreases-loop-i : goal.decreases-loop-i
 decreases-loop-i l = length l.cs - l.i
