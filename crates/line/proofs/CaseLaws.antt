@@ -1,12 +1,11 @@
 -- Lines that differ in the case of letters alone are judged alike (specs/Case.antt). Assumes nothing.
 use Prim.Native.Nat.{ℕ, ◌-◌, ◌≤◌, ◌<◌, min}
-use mathlib.Core.Bool.{Bool, true, false, cond, not, ◌||◌}
+use mathlib.Core.Bool.{Bool, false, not, ◌||◌}
 use mathlib.Core.List.{List, [], ◌∷◌, map}
 use mathlib.Core.Path.{◌≡◌, refl, sym, ap, ◌∙◌}
 use native.Mathlib.Omega.{arith}
 use borrow.Author.Tests.{lt-ltb, le-ltb}
 use lib.Dec.{ltb}
-use lib.ListN.{length}
 use Rattle.laws.proofs.Pick.{by_lt}
 use Rattle.digits.specs.declared.Digit.{Digit}
 use Rattle.digits.specs.declared.Digit.TheVariants.{Other, Capital, Small}
@@ -15,20 +14,8 @@ use Rattle.digits.specs.declared.Number.TheVariants.{NotDigits, Value}
 use Rattle.digits.specs.Digits.{digit_of, join_digit, join_of, read_on, number_of}
 use Rattle.digits.specs.Characters.{is_digit}
 use Rattle.line.specs.declared.Judged.{Judged}
-use Rattle.line.specs.Line.{
-  char_at,
-  is_letter,
-  is_switch,
-  is_ident,
-  is_number,
-  value_of,
-  digit_chars,
-  digit_count,
-  turned_away,
-  judge_value,
-  judge_of,
-}
-use Rattle.line.specs.Case.{raised, Alike, CaseIgnored}
+use Rattle.line.specs.Line.{char_at, is_letter, is_switch, is_ident, is_number, value_of, digit_chars, turned_away, judge_value, judge_of}
+use Rattle.line.specs.Case.{raised, CaseIgnored}
 
 -- ---- A digit
 
