@@ -4,5 +4,7 @@ use Rattle.block.proofs.Buffers.{part_over}
 use Rattle.block.proofs.write_at.Goals as goal
 
 pub returns : goal.returns
-returns c =
-    (c.write_front.ensures.0, part_over c.args.at (block_of c.args.block) c.args.buf.now c.write_front.new.0 c.write_front.ensures.1)
+returns c = (
+  c.write_front.ensures.0,
+  part_over c.args.at (block_of c.args.block) c.args.buf.now c.write_front.new.buf c.write_front.ensures.1,
+)

@@ -7,11 +7,13 @@ use Rattle.block.proofs.write_block.Goals as goal
 
 pub returns-then-buf-need : goal.returns-then-buf-need
 returns-then-buf-need c =
-    no_room c.args.at (block_of c.args.block) c.args.buf.now (omega (arith, length_block c.args.block))
+    let k = no_room c.args.at (block_of c.args.block) c.args.buf.now (omega (arith, length_block c.args.block)) in
+    record { value = k.0; buf_after = k.1 }
 
 pub returns-then-buf-need-2 : goal.returns-then-buf-need-2
 returns-then-buf-need-2 c =
-    no_room c.args.at (block_of c.args.block) c.args.buf.now (omega (arith, length_block c.args.block))
+    let k = no_room c.args.at (block_of c.args.block) c.args.buf.now (omega (arith, length_block c.args.block)) in
+    record { value = k.0; buf_after = k.1 }
 
 pub write_at-requires : goal.write_at-requires
 write_at-requires c =
@@ -19,5 +21,7 @@ write_at-requires c =
 
 pub returns : goal.returns
 returns c =
-    with_room c.args.at (block_of c.args.block) c.args.buf.now c.write_at.result c.write_at.new.0
-    (omega (arith, length_block c.args.block)) c.write_at.ensures.0 c.write_at.ensures.1
+    let k =
+    with_room c.args.at (block_of c.args.block) c.args.buf.now c.write_at.result c.write_at.new.buf
+    (omega (arith, length_block c.args.block)) c.write_at.ensures.0 c.write_at.ensures.1 in
+    record { value = k.0; buf_after = k.1 }

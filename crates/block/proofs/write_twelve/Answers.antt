@@ -1,5 +1,4 @@
--- Twelve blocks, or nothing where they have no room. The invariant: as many blocks as turns stand over the front. The
--- measure is the turns that are left. Assumes nothing.
+-- Twelve blocks, or nothing where they have no room. Assumes nothing.
 use native.Mathlib.Omega.{arith}
 use Rattle.block.specs.Block.{row_of}
 use Rattle.block.proofs.Blocks.{length_most, length_row}
@@ -12,8 +11,10 @@ overflow_mul-block_length c = omega (arith, c.block_length.ensures, length_most 
 
 pub returns-then-buf-block_length : goal.returns-then-buf-block_length
 returns-then-buf-block_length c =
-    no_room 0 (row_of 12 c.args.letters c.args.numbers c.args.switch c.args.ident) c.args.buf.now
-    (omega (arith, length_row c.args.letters c.args.numbers c.args.switch c.args.ident 12))
+    let row = row_of 12 c.args.letters c.args.numbers c.args.switch c.args.ident in
+    let long = length_row c.args.letters c.args.numbers c.args.switch c.args.ident 12 in
+    let k = no_room 0 row c.args.buf.now (omega (arith, long)) in
+    record { value = k.0; buf_after = k.1 }
 
 pub loop-k-init : goal.loop-k-init
 loop-k-init c = loop.none_written (omega (arith, c.block_length.ensures, c.if-buf-block_length.false))
@@ -23,7 +24,9 @@ write_at-at-requires c = loop.next_room c.loop-k.invariant c.loop-k-test.true
 
 pub overflow_add-at : goal.overflow_add-at
 overflow_add-at c =
-    omega (arith, loop.most (loop.one_more c.loop-k.invariant c.loop-k-test.true c.write_at-at.ensures.0 c.write_at-at.ensures.1))
+    let next =
+    loop.one_more c.loop-k.invariant c.loop-k-test.true c.write_at-at.ensures.0 c.write_at-at.ensures.1 in
+    omega (arith, loop.most next)
 
 pub loop-k-preserved : goal.loop-k-preserved
 loop-k-preserved c =
@@ -33,4 +36,6 @@ pub shape_of-buf : goal.shape_of-buf
 shape_of-buf c = loop.same_length c.loop-k.invariant
 
 pub returns : goal.returns
-returns c = loop.all_written c.loop-k.invariant (omega arith)
+returns c =
+    let k = loop.all_written c.loop-k.invariant (omega arith) in
+    record { value = k.0; buf_after = k.1 }
