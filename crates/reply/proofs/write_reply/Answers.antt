@@ -6,21 +6,25 @@ use Rattle.reply.proofs.write_reply.Goals as goal
 
 pub returns-in-One : goal.returns-in-One
 returns-in-One c =
-    written c.args.buf.now
-    (one_block (told_by c.args.readings) c.args.command c.args.digits c.args.ident c.in-One.letter c.in-One.number
-    (sym c.in-One.is ∙ c.answer_to-answer.ensures))
-    c.write_block.ensures.value c.write_block.ensures.buf_after
+    let a = c.args in
+    let answer = sym c.in-One.is ∙ c.answer_to-answer.ensures in
+    let block = one_block (told_by a.readings) a.command a.digits a.ident c.in-One.letter c.in-One.number answer in
+    let k = written a.buf.now block c.write_block.ensures.value c.write_block.ensures.buf_after in
+    record { value = k.0; buf_after = k.1 }
 
 pub returns-in-All : goal.returns-in-All
 returns-in-All c =
-    written c.args.buf.now
-    (twelve_blocks (told_by c.args.readings) c.args.command c.args.digits c.args.ident c.all_numbers-numbers.ensures
-    (sym c.in-All.is ∙ c.answer_to-answer.ensures))
-    c.write_twelve.ensures.value c.write_twelve.ensures.buf_after
+    let a = c.args in
+    let answer = sym c.in-All.is ∙ c.answer_to-answer.ensures in
+    let blocks = twelve_blocks (told_by a.readings) a.command a.digits a.ident c.all_numbers-numbers.ensures answer in
+    let k = written a.buf.now blocks c.write_twelve.ensures.value c.write_twelve.ensures.buf_after in
+    record { value = k.0; buf_after = k.1 }
 
 pub returns-in-Later : goal.returns-in-Later
 returns-in-Later c =
-    let n = nothing_laid c.args.buf.now in
-    written c.args.buf.now
-    (no_block (told_by c.args.readings) c.args.command c.args.digits c.args.ident (sym c.in-Later.is ∙ c.answer_to-answer.ensures))
-    n.0 n.1
+    let a = c.args in
+    let n = nothing_laid a.buf.now in
+    let answer = sym c.in-Later.is ∙ c.answer_to-answer.ensures in
+    let block = no_block (told_by a.readings) a.command a.digits a.ident answer in
+    let k = written a.buf.now block n.0 n.1 in
+    record { value = k.0; buf_after = k.1 }

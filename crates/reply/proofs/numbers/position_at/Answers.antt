@@ -7,9 +7,9 @@ use Rattle.reply.proofs.numbers.position_at.Goals as goal
 
 pub returns-then-axis-ge-AXES : goal.returns-then-axis-ge-AXES
 returns-then-axis-ge-AXES c =
-    absent c.args.positions c.args.axis origin c.well-formed.0.1.0.1 c.if-axis-ge-AXES.true
+    absent c.args.positions c.args.axis origin (omega arith) c.if-axis-ge-AXES.true
 
 pub returns : goal.returns
 returns c =
     any_default c.args.positions c.args.axis (record { 0 = 0 }) origin
-    (omega (arith, c.well-formed.0.1.0.1, c.if-axis-ge-AXES.false))
+    (omega (arith, c.if-axis-ge-AXES.false))

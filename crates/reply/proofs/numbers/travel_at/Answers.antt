@@ -1,7 +1,8 @@
 -- An axis's travel: of an axis that is not there, 0. Assumes nothing.
+use native.Mathlib.Omega.{arith}
 use Rattle.reply.proofs.Figures.{absent}
 use Rattle.reply.proofs.numbers.travel_at.Goals as goal
 
 pub returns-then-axis-ge-AXES : goal.returns-then-axis-ge-AXES
 returns-then-axis-ge-AXES c =
-    absent c.args.travels c.args.axis (record { 0 = 0 }) c.well-formed.0.1.0.1 c.if-axis-ge-AXES.true
+    absent c.args.travels c.args.axis (record { 0 = 0 }) (omega arith) c.if-axis-ge-AXES.true
