@@ -12,9 +12,10 @@ use Rattle.journal.proofs.append.Goals as goal
 
 pub returns-then-number-ne0 : goal.returns-then-number-ne0
 returns-then-number-ne0 c =
-    let w =
-    appended_not c.args.buf.now c.args.at c.args.entry c.refusal-number.result
-    (c.refusal-number.ensures ∙ ap (refusal_of (length c.args.buf.now) c.args.at) c.Numbers-of.ensures) c.if-number-ne0.true in
+    let a = c.args in
+    let numbers = c.numbers_of-numbers.ensures in
+    let number = c.refusal-number.ensures ∙ ap (refusal_of (length a.buf.now) a.at) numbers in
+    let w = appended_not a.buf.now a.at a.entry c.refusal-number.result number c.if-number-ne0.true in
     record {
       value = w.0;
       buf_after = w.1;
@@ -24,18 +25,20 @@ returns-then-number-ne0 c =
 
 pub write_all-next-requires : goal.write_all-next-requires
 write_all-next-requires c =
-    let w =
-    accepted (length c.args.buf.now) c.args.at c.Numbers-of.result
-    (sym c.refusal-number.ensures ∙ c.if-number-ne0.false) in
+    let none = sym c.refusal-number.ensures ∙ c.if-number-ne0.false in
+    let w = accepted (length c.args.buf.now) c.args.at c.numbers_of-numbers.result none in
     (w.1, w.0)
 
 pub returns : goal.returns
 returns c =
-    let w =
-    appended_at c.args.buf.now c.args.at c.args.entry
-    (sym (c.refusal-number.ensures ∙ ap (refusal_of (length c.args.buf.now) c.args.at) c.Numbers-of.ensures) ∙ c.if-number-ne0.false) in record {
-      value = (λ j. record { next = (c.write_all-next.ensures.value ∙ ap (λ ns. c.args.at + length (spell_all ns)) c.Numbers-of.ensures) j; number = 0 }) ∙ w.0;
-      buf_after = c.write_all-next.ensures.buf_after ∙ ap (λ ns. put c.args.at (spell_all ns) c.args.buf.now) c.Numbers-of.ensures ∙ w.1;
+    let a = c.args in
+    let numbers = c.numbers_of-numbers.ensures in
+    let number = c.refusal-number.ensures ∙ ap (refusal_of (length a.buf.now) a.at) numbers in
+    let w = appended_at a.buf.now a.at a.entry (sym number ∙ c.if-number-ne0.false) in
+    let next = c.write_all-next.ensures.value ∙ ap (λ ns. a.at + length (spell_all ns)) numbers in
+    record {
+      value = (λ j. record { next = next j; number = 0 }) ∙ w.0;
+      buf_after = c.write_all-next.ensures.buf_after ∙ ap (λ ns. put a.at (spell_all ns) a.buf.now) numbers ∙ w.1;
       round_trip = round_trip;
       write_examples = write_examples;
     }

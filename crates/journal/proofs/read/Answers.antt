@@ -40,7 +40,13 @@ entry_from-entry-requires c =
 pub returns : goal.returns
 returns c =
     record {
-      value = (λ c.before.before.before.before.before. record { entry = c.entry_from-entry.ensures c.before.before.before.before.before; next = c.read_all-all.result.next; found = true; number = 0 })
+      value =
+          (λ i. record {
+            entry = c.entry_from-entry.ensures i;
+            next = c.read_all-all.result.next;
+            found = true;
+            number = 0;
+          })
           ∙ read_taken c.args.bytes.now c.args.at c.read_all-all.result c.read_all-all.ensures c.if-bytes-at.false
           c.if-all-ne0.false;
       one_spelling = one_spelling;

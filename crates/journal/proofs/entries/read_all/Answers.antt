@@ -1,5 +1,5 @@
 -- Number by number. The invariant: what is read from the given place on is what was read so far, with what is read from
--- this place on. The measure is the numbers left. Assumes nothing.
+-- this place on. Assumes nothing.
 use native.Mathlib.Omega.{arith}
 use mathlib.Core.Path.{refl, ◌∙◌}
 use lib.ListN.{drop, length-set}
@@ -11,27 +11,10 @@ pub loop-k-init : goal.loop-k-init
 loop-k-init c =
     (omega arith, (refl, resumed_start c.args.at (read_all ranges (drop c.args.at c.args.bytes.now))))
 
-pub judge-one-requires : goal.judge-one-requires
-judge-one-requires c = tt
-
 pub returns-then-one-ne0 : goal.returns-then-one-ne0
 returns-then-one-ne0 c =
     loop_stops c.args.bytes.now c.loop-k.k c.loop-k.place c.loop-k-test.true c.args.at c.loop-k.values c.judge-one.result c.loop-k.invariant.1.1
     c.judge-one.ensures c.if-one-ne0.true
-
-pub offset_bounds-values-k : goal.offset_bounds-values-k
-offset_bounds-values-k c =
-    record { fits = omega (arith, c.loop-k-test.true) }
-
-pub bounds-values-k : goal.bounds-values-k
-bounds-values-k c = c.loop-k-test.true
-
-pub overflow_step-k : goal.overflow_step-k
-overflow_step-k c =
-    record { fits = omega (arith, c.loop-k-test.true) }
-
-pub loop-k-smaller : goal.loop-k-smaller
-loop-k-smaller c = omega (arith, c.loop-k-test.true)
 
 pub loop-k-preserved : goal.loop-k-preserved
 loop-k-preserved c = (

@@ -1,6 +1,6 @@
 -- Number by number. The invariant: what is read from the given place on is what was read so far, with what is read from
--- this place on. The measure is the numbers left. Assumes nothing.
-use Prim.Native.Nat.{◌-◌, ◌≤◌}
+-- this place on. Assumes nothing.
+use Prim.Native.Nat.{◌≤◌}
 use mathlib.Core.Path.{◌≡◌}
 use lib.ListN.{length, take, drop}
 use Rattle.journal.specs.Entries.{ranges, read_all}
@@ -10,9 +10,6 @@ use Rattle.journal.proofs.entries.read_all.Given as goal
 
 abbrev pub invariant-loop-k : goal.invariant-loop-k
 invariant-loop-k l =
-    (l.k ≤ 7) × ((length l.place ≡ 7)
+    (l.k ≤ 7) × ((length l.values ≡ 7)
     × (numbers_at l.at (read_all ranges (drop l.at l.bytes))
-    ≡ resumed (take l.k l.place) l.initial.k (read_all (drop l.k ranges) (drop l.initial.k l.bytes))))
-
-abbrev pub decreases-loop-k : goal.decreases-loop-k
-decreases-loop-k l = 7 - l.k
+    ≡ resumed (take l.k l.values) l.place (read_all (drop l.k ranges) (drop l.place l.bytes))))

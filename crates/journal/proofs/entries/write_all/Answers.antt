@@ -1,5 +1,4 @@
--- Number by number. The invariant: the numbers so far stand from the given place on. The measure is the numbers left.
--- Assumes nothing.
+-- Number by number. The invariant: the numbers so far stand from the given place on. Assumes nothing.
 use native.Mathlib.Omega.{arith}
 use Rattle.journal.specs.Entries.{travel_range, ranges}
 use Rattle.journal.specs.Inner.{capacity}
@@ -11,12 +10,6 @@ pub loop-k-init : goal.loop-k-init
 loop-k-init c =
     (omega arith, spell.none_written c.args.at c.args.values c.args.buf.now)
 
-pub offset_bounds-values-k : goal.offset_bounds-values-k
-offset_bounds-values-k c = record { fits = omega arith }
-
-pub bounds-values-k : goal.bounds-values-k
-bounds-values-k c = omega arith
-
 pub write-place-requires : goal.write-place-requires
 unfolding capacity
 write-place-requires c = (
@@ -25,19 +18,11 @@ write-place-requires c = (
   within_small c.loop-k.k _ (fit_at ranges c.args.values travel_range c.loop-k.k c.requires.1 c.loop-k-test.true),
 )
 
-pub overflow_step-k : goal.overflow_step-k
-overflow_step-k c =
-    record { fits = omega (arith, c.loop-k-test.true) }
-
-pub loop-k-smaller : goal.loop-k-smaller
-loop-k-smaller c =
-    omega (arith, c.loop-k-test.true)
-
 pub loop-k-preserved : goal.loop-k-preserved
 loop-k-preserved c = (
   omega (arith, c.loop-k-test.true),
   spell.one_more c.args.at c.args.values c.args.buf.now c.requires.0 c.loop-k.k c.loop-k.place c.loop-k.buf
-      c.loop-k.invariant.1.0 c.loop-k.invariant.1.1 c.write-place.result c.write-place.new.0
+      c.loop-k.invariant.1.0 c.loop-k.invariant.1.1 c.write-place.result c.write-place.new.buf
       (omega (arith, c.loop-k-test.true, fit_length ranges c.args.values c.requires.1)) c.write-place.ensures.value c.write-place.ensures.buf_after,
 )
 
@@ -48,6 +33,8 @@ shape_of-buf c =
 
 pub returns : goal.returns
 returns c =
+    let long = fit_length ranges c.args.values c.requires.1 in
+    let k =
     spell.all_written c.args.at c.args.values c.args.buf.now c.requires.0 c.loop-k.k c.loop-k.place c.loop-k.buf
-    c.loop-k.invariant.1.0 c.loop-k.invariant.1.1
-    (omega (arith, c.loop-k.invariant.0, c.loop-k-test.false, fit_length ranges c.args.values c.requires.1))
+    c.loop-k.invariant.1.0 c.loop-k.invariant.1.1 (omega arith) in
+    record { value = k.0; buf_after = k.1 }
