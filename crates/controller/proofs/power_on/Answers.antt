@@ -43,40 +43,48 @@ use Rattle.controller.proofs.SettleAnswerLaws.{settles_answers}
 use Rattle.controller.proofs.power_on.Goals as goal
 
 -- What power-on promises, given its answer.
-powered : (s : ℕ) (r : PowerOn) → r ≡ held_power s
-    → (r ≡ held_power s)
-    × (Reachable r.controller
-    × (Demand3
-    × (Marked
-    × (Witness
-    × (Demand3Answers
-    × (Journal
-    × (JournalAnswers
-    × (EntryWitness
-    × (Watch
-    × (Settles
-    × (SettlesAnswers
-    × (BlockWitness
-    × (CarryOn × (CarryAnswers × (CarryWitness × (Returns × (ReturnsAnswers × ReturnWitness)))))))))))))))))
-powered s r e = (
-  e,
-  (
-    reach_power s r e,
-    (
-      demand_3,
-      (marked, (witness, (demand_3_answers, (journal_is, (journal_answers, (entries, (watched, later))))))),
-    ),
-  ),
-)
-  where
-    named : CarryWitness × (Returns × (ReturnsAnswers × ReturnWitness))
-    named = (carries_on, (machine.returns, (returns_answers, returned)))
-
-    later : Settles
-        × (SettlesAnswers
-        × (BlockWitness
-        × (CarryOn × (CarryAnswers × (CarryWitness × (Returns × (ReturnsAnswers × ReturnWitness)))))))
-    later = (settled, (settles_answers, (blocks_answered, (carry_on_lem, (carry_answers, named)))))
+powered : (s : ℕ) (r : PowerOn) → r ≡ held_power s → record {
+  value : r ≡ held_power s;
+  reachable : Reachable r.controller;
+  demand3 : Demand3;
+  marked : Marked;
+  witness : Witness;
+  demand3answers : Demand3Answers;
+  journal : Journal;
+  journal_answers : JournalAnswers;
+  entry_witness : EntryWitness;
+  watch : Watch;
+  settles : Settles;
+  settles_answers : SettlesAnswers;
+  block_witness : BlockWitness;
+  carry_on : CarryOn;
+  carry_answers : CarryAnswers;
+  carry_witness : CarryWitness;
+  returns : Returns;
+  returns_answers : ReturnsAnswers;
+  return_witness : ReturnWitness;
+}
+powered s r e = record {
+  value = e;
+  reachable = reach_power s r e;
+  demand3 = demand_3;
+  marked = marked;
+  witness = witness;
+  demand3answers = demand_3_answers;
+  journal = journal_is;
+  journal_answers = journal_answers;
+  entry_witness = entries;
+  watch = watched;
+  settles = settled;
+  settles_answers = settles_answers;
+  block_witness = blocks_answered;
+  carry_on = carry_on_lem;
+  carry_answers = carry_answers;
+  carry_witness = carries_on;
+  returns = machine.returns;
+  returns_answers = returns_answers;
+  return_witness = returned;
+}
 
 pub returns-then-is_bad : goal.returns-then-is_bad
 returns-then-is_bad c = powered c.args.switch _

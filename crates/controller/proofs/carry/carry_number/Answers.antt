@@ -2,7 +2,6 @@
 use Prim.Native.Nat.{ℕ, ◌-◌, ◌≤◌, ◌<◌}
 use mathlib.Core.Path.{refl, sym, ap, subst, ◌∙◌}
 use native.Mathlib.Omega.{arith}
-use borrow.Author.Tests.{not-true, not-false}
 use lib.ListN.{get_or}
 use Rattle.laws.proofs.Pick.{on_true, on_false, told_true, told_false}
 use Rattle.controller.specs.declared.state.Plan.{Plan}
@@ -24,21 +23,25 @@ open_fits p c f = record {
     less k h = let q = f.distance k h in omega (arith, q)
 
 pub returns-then-not-can_carry_on : goal.returns-then-not-can_carry_on
-returns-then-not-can_carry_on c = told_false _ _ _ _ _ c.can_carry_on.ensures (not-true _ c.if-not-can_carry_on.true-raw) refl
+returns-then-not-can_carry_on c =
+    told_false _ _ _ _ _ c.can_carry_on.ensures c.if-not-can_carry_on.true refl
 
 pub returns-then-flags : goal.returns-then-flags
 returns-then-flags c =
-    told_true _ _ _ _ _ c.can_carry_on.ensures (not-false _ c.if-not-can_carry_on.false-raw)
+    told_true _ _ _ _ _ c.can_carry_on.ensures c.if-not-can_carry_on.false
     (on_true _ _ _ _ c.if-flags.true refl)
 
 pub returns-then-sensor : goal.returns-then-sensor
 returns-then-sensor c =
-    told_true _ _ _ _ _ c.can_carry_on.ensures (not-false _ c.if-not-can_carry_on.false-raw)
+    told_true _ _ _ _ _ c.can_carry_on.ensures c.if-not-can_carry_on.false
     (on_false _ _ _ _ c.if-flags.false (told_true _ _ _ _ _ c.sensor.ensures c.if-sensor.true refl))
 
 pub returns-then-blocked : goal.returns-then-blocked
-returns-then-blocked c = told_true _ _ _ _ _ c.can_carry_on.ensures (not-false _ c.if-not-can_carry_on.false-raw)
-    (on_false _ _ _ _ c.if-flags.false (told_false _ _ _ _ _ c.sensor.ensures c.if-sensor.false (told_true _ _ _ _ _ c.blocked.ensures c.if-blocked.true refl)))
+returns-then-blocked c =
+    told_true _ _ _ _ _ c.can_carry_on.ensures c.if-not-can_carry_on.false
+    (on_false _ _ _ _ c.if-flags.false
+    (told_false _ _ _ _ _ c.sensor.ensures c.if-sensor.false
+    (told_true _ _ _ _ _ c.blocked.ensures c.if-blocked.true refl)))
     ∙ ap (carry_number_given c.args.settings c.args.hot) c.open_plan-open.ensures
 
 pub some_leave-requires : goal.some_leave-requires
@@ -47,13 +50,19 @@ some_leave-requires c =
     (open_fits c.args.hot.plan c.args.hot.counters c.requires.start)
 
 pub returns-then-some_leave : goal.returns-then-some_leave
-returns-then-some_leave c = told_true _ _ _ _ _ c.can_carry_on.ensures (not-false _ c.if-not-can_carry_on.false-raw)
-    (on_false _ _ _ _ c.if-flags.false (told_false _ _ _ _ _ c.sensor.ensures c.if-sensor.false (told_false _ _ _ _ _ c.blocked.ensures c.if-blocked.false
+returns-then-some_leave c =
+    told_true _ _ _ _ _ c.can_carry_on.ensures c.if-not-can_carry_on.false
+    (on_false _ _ _ _ c.if-flags.false
+    (told_false _ _ _ _ _ c.sensor.ensures c.if-sensor.false
+    (told_false _ _ _ _ _ c.blocked.ensures c.if-blocked.false
     (told_true _ _ _ _ _ c.some_leave.ensures c.if-some_leave.true refl))))
     ∙ ap (carry_number_given c.args.settings c.args.hot) c.open_plan-open.ensures
 
 pub returns : goal.returns
-returns c = told_true _ _ _ _ _ c.can_carry_on.ensures (not-false _ c.if-not-can_carry_on.false-raw)
-    (on_false _ _ _ _ c.if-flags.false (told_false _ _ _ _ _ c.sensor.ensures c.if-sensor.false (told_false _ _ _ _ _ c.blocked.ensures c.if-blocked.false
+returns c =
+    told_true _ _ _ _ _ c.can_carry_on.ensures c.if-not-can_carry_on.false
+    (on_false _ _ _ _ c.if-flags.false
+    (told_false _ _ _ _ _ c.sensor.ensures c.if-sensor.false
+    (told_false _ _ _ _ _ c.blocked.ensures c.if-blocked.false
     (told_false _ _ _ _ _ c.some_leave.ensures c.if-some_leave.false refl))))
     ∙ ap (carry_number_given c.args.settings c.args.hot) c.open_plan-open.ensures

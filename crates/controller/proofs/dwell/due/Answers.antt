@@ -8,13 +8,17 @@ use Rattle.controller.proofs.dwell.due.Goals as goal
 
 pub returns-then-number-eq0 : goal.returns-then-number-eq0
 returns-then-number-eq0 c =
-    on_eq c.start_number-number.result 0 _ _ (record { hot = failed_of c.args.hot c.start_number-number.result; number = c.start_number-number.result }) c.if-number-eq0.true
+    let number = c.start_number-number.result in
+    let given = λ (n : ℕ). due_given c.args.next c.args.settings.polarity c.args.switch c.args.hot c.args.master n in
+    on_eq number 0 _ _ (record { hot = failed_of c.args.hot number; number = number }) c.if-number-eq0.true
     (λ i. record { hot = c.begun-started.ensures i; number = c.if-number-eq0.true i })
-    ∙ ap (λ (x : ℕ). due_given c.args.next c.args.settings.polarity c.args.switch c.args.hot c.args.master x) c.start_number-number.ensures
+    ∙ ap given c.start_number-number.ensures
 
 pub returns-else-number-eq0 : goal.returns-else-number-eq0
 returns-else-number-eq0 c =
-    on_ne c.start_number-number.result 0 _ (record
-    { hot = begun_of c.args.next c.args.settings.polarity c.args.switch c.args.hot c.args.master; number = 0 }) _
-    c.if-number-eq0.false (λ i. record { hot = c.failed-dropped.ensures i; number = c.start_number-number.result })
-    ∙ ap (λ (x : ℕ). due_given c.args.next c.args.settings.polarity c.args.switch c.args.hot c.args.master x) c.start_number-number.ensures
+    let number = c.start_number-number.result in
+    let given = λ (n : ℕ). due_given c.args.next c.args.settings.polarity c.args.switch c.args.hot c.args.master n in
+    on_ne number 0 _
+    (record { hot = begun_of c.args.next c.args.settings.polarity c.args.switch c.args.hot c.args.master; number = 0 })
+    _ c.if-number-eq0.false (λ i. record { hot = c.failed-dropped.ensures i; number = number })
+    ∙ ap given c.start_number-number.ensures

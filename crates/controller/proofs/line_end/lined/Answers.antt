@@ -5,11 +5,7 @@ use Rattle.controller.proofs.LineEndLaws.{lined_refused, lined_obeyed, lined_num
 use Rattle.controller.proofs.line_end.lined.Goals as goal
 
 pub number-number-requires : goal.number-number-requires
-number-number-requires c = (
-  (subst JudgedFits c.in-Accepted.is
-      c.requires.1).command,
-  c.requires.2,
-)
+number-number-requires c = ((subst JudgedFits c.in-Accepted.is c.requires.1).command, c.requires.2)
 
 pub obey-obeyed-requires : goal.obey-obeyed-requires
 obey-obeyed-requires c =
@@ -17,15 +13,19 @@ obey-obeyed-requires c =
 
 pub returns-in-Refused : goal.returns-in-Refused
 returns-in-Refused c =
-    lined_refused c.args.c c.args.ident c.args.buf.now c.args.silent c.args.judged _ _ _ c.in-Refused.is
-    c.refuse-refused.ensures.value c.refuse-refused.ensures.buf_after
+    let k = lined_refused c.args.c c.args.ident c.args.buf.now c.args.silent c.args.judged _ _ _ c.in-Refused.is
+        c.refuse-refused.ensures.value c.refuse-refused.ensures.buf_after in
+    record { value = k.0; buf_after = k.1 }
 
 pub returns-then-number-eq0 : goal.returns-then-number-eq0
 returns-then-number-eq0 c =
-    lined_obeyed c.args.c c.args.ident c.args.buf.now c.args.silent c.args.judged _ _ _ _ _ c.in-Accepted.is
-    c.number-number.ensures c.if-number-eq0.true c.obey-obeyed.ensures.value c.obey-obeyed.ensures.buf_after
+    let k = lined_obeyed c.args.c c.args.ident c.args.buf.now c.args.silent c.args.judged _ _ _ _ _ c.in-Accepted.is
+        c.number-number.ensures c.if-number-eq0.true c.obey-obeyed.ensures.value c.obey-obeyed.ensures.buf_after in
+    record { value = k.0; buf_after = k.1 }
 
 pub returns-else-number-eq0 : goal.returns-else-number-eq0
 returns-else-number-eq0 c =
-    lined_numbered c.args.c c.args.ident c.args.buf.now c.args.silent c.args.judged _ _ _ _ _ c.in-Accepted.is
-    c.number-number.ensures c.if-number-eq0.false c.refuse-refused-else-number-eq0.ensures.value c.refuse-refused-else-number-eq0.ensures.buf_after
+    let k = lined_numbered c.args.c c.args.ident c.args.buf.now c.args.silent c.args.judged _ _ _ _ _ c.in-Accepted.is
+        c.number-number.ensures c.if-number-eq0.false c.refuse-refused-else-number-eq0.ensures.value
+        c.refuse-refused-else-number-eq0.ensures.buf_after in
+    record { value = k.0; buf_after = k.1 }

@@ -6,7 +6,9 @@ use Rattle.controller.proofs.StepLaws.{share_sum, share_on, share_off}
 use Rattle.controller.proofs.motion.share_step.Goals as goal
 
 pub overflow_add-sum : goal.overflow_add-sum
-overflow_add-sum c = omega (arith, (let it : c.args.remainder + c.args.distance ≤ 1048573 = share_sum _ _ _ c.requires.0 c.requires.1 c.requires.2 in it))
+overflow_add-sum c =
+    let sum : c.args.remainder + c.args.distance ≤ 1048573 = share_sum _ _ _ c.requires.0 c.requires.1 c.requires.2 in
+    omega arith
 
 pub returns-then-length-sum : goal.returns-then-length-sum
 returns-then-length-sum c =

@@ -10,4 +10,5 @@ returns-then-number-lt10 c = on_lt _ _ _ _ _ c.if-number-lt10.true refl
 
 pub returns : goal.returns
 returns c =
-    on_ge _ _ _ _ _ c.if-number-lt10.false (λ i. with_hot c.args.c (turned_given c.args.c.hot (c.either-wrong.ensures i)))
+    on_ge _ _ _ _ _ c.if-number-lt10.false
+    (λ i. with_hot c.args.c (turned_given c.args.c.hot (c.either-wrong.ensures i)))

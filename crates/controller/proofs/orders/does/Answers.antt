@@ -7,7 +7,8 @@ use Rattle.controller.proofs.orders.does.Goals as goal
 
 pub set_axis-requires : goal.set_axis-requires
 set_axis-requires c =
-    (distance c.in-Distance.axis c.in-Distance.minus c.in-Distance.length (subst CommandFits c.in-Distance.is c.requires)).0
+    (distance c.in-Distance.axis c.in-Distance.minus c.in-Distance.length
+    (subst CommandFits c.in-Distance.is c.requires)).0
 
 pub obey_start-requires : goal.obey_start-requires
 obey_start-requires c = axis _ (subst CommandFits c.in-Start.is c.requires)

@@ -4,5 +4,6 @@ use Rattle.controller.proofs.power.fresh_hot.Goals as goal
 
 pub returns : goal.returns
 returns c =
+    let cells = c.axis_cells-cells.ensures in
     λ i. fresh_hot_given c.args.plan (c.fresh_run-run.ensures i) (c.general-general.ensures i)
-    (record { rests = c.axis_cells-cells.ensures.rests_value i; fires = c.axis_cells-cells.ensures.fires_value i; still = c.axis_cells-cells.ensures.still_value i })
+    (record { rests = cells.rests_value i; fires = cells.fires_value i; still = cells.still_value i })

@@ -12,14 +12,17 @@ pub returns-then-not-was : goal.returns-then-not-was
 returns-then-not-was c = on_true _ _ _ _ c.if-not-was.true refl
 
 pub overflow_add-ticks : goal.overflow_add-ticks
-overflow_add-ticks c = omega (arith, ((let it : RampFits c.args.settings c.args.was = c.requires (not-false c.args.was.moving c.if-not-was.false) in it)).ticks, c.count-ticks.ensures)
+overflow_add-ticks c =
+    let f : RampFits c.args.settings c.args.was = c.requires (not-false c.args.was.moving c.if-not-was.false) in
+    omega (arith, f.ticks, c.count-ticks.ensures)
 
 pub returns-then-stands : goal.returns-then-stands
 returns-then-stands c =
     on_false _ _ _ _ c.if-not-was.false
     (on_true _ _ _ _ (sym c.stands.ensures ∙ c.if-stands.true)
     (λ i. record {
-      run = (c.at_rest-run.ensures ∙ ap (λ (n : ℕ). at_rest_of c.args.was (n + 1) c.args.was.gone) c.count-ticks.ensures) i;
+      run = (c.at_rest-run.ensures
+          ∙ ap (λ (n : ℕ). at_rest_of c.args.was (n + 1) c.args.was.gone) c.count-ticks.ensures) i;
       fires = false;
       ends = true;
     }))
@@ -29,7 +32,7 @@ ramp-speed-requires c = c.requires (not-false c.args.was.moving c.if-not-was.fal
 
 pub advance-requires : goal.advance-requires
 advance-requires c =
-    let f = (let it : RampFits c.args.settings c.args.was = c.requires (not-false c.args.was.moving c.if-not-was.false) in it) in
+    let f : RampFits c.args.settings c.args.was = c.requires (not-false c.args.was.moving c.if-not-was.false) in
     (c.ramp-speed.ensures.1, f.phase, omega (arith, f.gone, f.length))
 
 pub returns : goal.returns

@@ -7,27 +7,36 @@ use Rattle.controller.specs.Inner.Start.{leaves_at_of}
 use Rattle.controller.proofs.start.some_leave.Goals as goal
 
 pub returns-then-leaves_at : goal.returns-then-leaves_at
-returns-then-leaves_at c = some_0 ((let it : ℕ → Bool = leaves_at_of c.args.next c.args.counters in it)) (sym c.leaves_at.ensures ∙ c.if-leaves_at.true)
+returns-then-leaves_at c =
+    let leaves : ℕ → Bool = leaves_at_of c.args.next c.args.counters in
+    some_0 leaves (sym c.leaves_at.ensures ∙ c.if-leaves_at.true)
 
 pub returns-then-leaves_at-2 : goal.returns-then-leaves_at-2
 returns-then-leaves_at-2 c =
-    some_1 ((let it : ℕ → Bool = leaves_at_of c.args.next c.args.counters in it)) ((let it : (let it : ℕ → Bool = leaves_at_of c.args.next c.args.counters in it) 0 ≡ false = sym c.leaves_at.ensures ∙ c.if-leaves_at.false in it))
-    (sym c.leaves_at-2.ensures ∙ c.if-leaves_at-2.true)
+    let leaves : ℕ → Bool = leaves_at_of c.args.next c.args.counters in
+    let stays_0 : leaves 0 ≡ false = sym c.leaves_at.ensures ∙ c.if-leaves_at.false in
+    some_1 leaves stays_0 (sym c.leaves_at-2.ensures ∙ c.if-leaves_at-2.true)
 
 pub returns-then-leaves_at-3 : goal.returns-then-leaves_at-3
 returns-then-leaves_at-3 c =
-    some_2 ((let it : ℕ → Bool = leaves_at_of c.args.next c.args.counters in it)) ((let it : (let it : ℕ → Bool = leaves_at_of c.args.next c.args.counters in it) 0 ≡ false = sym c.leaves_at.ensures ∙ c.if-leaves_at.false in it))
-    ((let it : (let it : ℕ → Bool = leaves_at_of c.args.next c.args.counters in it) 1 ≡ false = sym c.leaves_at-2.ensures ∙ c.if-leaves_at-2.false in it)) (sym c.leaves_at-3.ensures ∙ c.if-leaves_at-3.true)
+    let leaves : ℕ → Bool = leaves_at_of c.args.next c.args.counters in
+    let stays_0 : leaves 0 ≡ false = sym c.leaves_at.ensures ∙ c.if-leaves_at.false in
+    let stays_1 : leaves 1 ≡ false = sym c.leaves_at-2.ensures ∙ c.if-leaves_at-2.false in
+    some_2 leaves stays_0 stays_1 (sym c.leaves_at-3.ensures ∙ c.if-leaves_at-3.true)
 
 pub returns-then-leaves_at-4 : goal.returns-then-leaves_at-4
 returns-then-leaves_at-4 c =
-    some_3 ((let it : ℕ → Bool = leaves_at_of c.args.next c.args.counters in it))
-    ((let it : (let it : ℕ → Bool = leaves_at_of c.args.next c.args.counters in it) 0 ≡ false = sym c.leaves_at.ensures ∙ c.if-leaves_at.false in it)) ((let it : (let it : ℕ → Bool = leaves_at_of c.args.next c.args.counters in it) 1 ≡ false = sym c.leaves_at-2.ensures ∙ c.if-leaves_at-2.false in it))
-    ((let it : (let it : ℕ → Bool = leaves_at_of c.args.next c.args.counters in it) 2 ≡ false = sym c.leaves_at-3.ensures ∙ c.if-leaves_at-3.false in it)) (sym c.leaves_at-4.ensures ∙ c.if-leaves_at-4.true)
+    let leaves : ℕ → Bool = leaves_at_of c.args.next c.args.counters in
+    let stays_0 : leaves 0 ≡ false = sym c.leaves_at.ensures ∙ c.if-leaves_at.false in
+    let stays_1 : leaves 1 ≡ false = sym c.leaves_at-2.ensures ∙ c.if-leaves_at-2.false in
+    let stays_2 : leaves 2 ≡ false = sym c.leaves_at-3.ensures ∙ c.if-leaves_at-3.false in
+    some_3 leaves stays_0 stays_1 stays_2 (sym c.leaves_at-4.ensures ∙ c.if-leaves_at-4.true)
 
 pub returns : goal.returns
 returns c =
-    some_4 ((let it : ℕ → Bool = leaves_at_of c.args.next c.args.counters in it))
-    ((let it : (let it : ℕ → Bool = leaves_at_of c.args.next c.args.counters in it) 0 ≡ false = sym c.leaves_at.ensures ∙ c.if-leaves_at.false in it))
-    ((let it : (let it : ℕ → Bool = leaves_at_of c.args.next c.args.counters in it) 1 ≡ false = sym c.leaves_at-2.ensures ∙ c.if-leaves_at-2.false in it)) ((let it : (let it : ℕ → Bool = leaves_at_of c.args.next c.args.counters in it) 2 ≡ false = sym c.leaves_at-3.ensures ∙ c.if-leaves_at-3.false in it)) ((let it : (let it : ℕ → Bool = leaves_at_of c.args.next c.args.counters in it) 3 ≡ false = sym c.leaves_at-4.ensures ∙ c.if-leaves_at-4.false in it))
-    c.leaves_at-5.ensures
+    let leaves : ℕ → Bool = leaves_at_of c.args.next c.args.counters in
+    let stays_0 : leaves 0 ≡ false = sym c.leaves_at.ensures ∙ c.if-leaves_at.false in
+    let stays_1 : leaves 1 ≡ false = sym c.leaves_at-2.ensures ∙ c.if-leaves_at-2.false in
+    let stays_2 : leaves 2 ≡ false = sym c.leaves_at-3.ensures ∙ c.if-leaves_at-3.false in
+    let stays_3 : leaves 3 ≡ false = sym c.leaves_at-4.ensures ∙ c.if-leaves_at-4.false in
+    some_4 leaves stays_0 stays_1 stays_2 stays_3 c.leaves_at-5.ensures

@@ -14,16 +14,13 @@ returns-then-buf-lt-REPLY_ROOM c =
 
 pub lined-requires : goal.lined-requires
 lined-requires c =
-    let k = c.take-taken.ensures.holding
-    (state c.requires.switch c.requires.history).line (ap (λ (x : Controller). x.cold-1.line) c.requires.made) in (
+    let m = state c.requires.switch c.requires.history in
+    let f = fits c.requires.switch c.requires.history in
+    let k = c.take-taken.ensures.holding m.line (ap (λ (x : Controller). x.cold.line) c.requires.made) in (
       c.if-buf-lt-REPLY_ROOM.false,
-      byte_judged (state c.requires.switch c.requires.history) c.args.b c.args.buf.now (fits c.requires.switch c.requires.history)
-          c.args.self c.requires.made
-          c.if-buf-lt-REPLY_ROOM.false _ k _
+      byte_judged m c.args.b c.args.buf.now f c.args.self c.requires.made c.if-buf-lt-REPLY_ROOM.false _ k _
           c.with_line-controller.ensures _ _ _ c.in-Line.is,
-      heard_number (state c.requires.switch c.requires.history) c.args.b c.args.buf.now (fits c.requires.switch c.requires.history)
-          c.args.self c.requires.made
-          c.if-buf-lt-REPLY_ROOM.false _ k _
+      heard_number m c.args.b c.args.buf.now f c.args.self c.requires.made c.if-buf-lt-REPLY_ROOM.false _ k _
           c.with_line-controller.ensures,
     )
 
@@ -33,7 +30,7 @@ returns-in-Character c =
     (λ s h e. byte_gathered (state s h) c.args.b c.args.buf.now (fits s h) c.args.self e
     c.if-buf-lt-REPLY_ROOM.false _
     (c.take-taken.ensures.holding (state s h).line
-    (ap (λ (x : Controller). x.cold-1.line) e)) _ c.with_line-controller.ensures
+    (ap (λ (x : Controller). x.cold.line) e)) _ c.with_line-controller.ensures
     c.in-Character.is)
 
 pub returns-in-Line : goal.returns-in-Line
@@ -41,7 +38,7 @@ returns-in-Line c =
     byte_answers c.args.self c.requires c.args.b c.args.buf.now _ _
     (λ s h e. byte_lined (state s h) c.args.b c.args.buf.now (fits s h) c.args.self e
     c.if-buf-lt-REPLY_ROOM.false
-    _ (c.take-taken.ensures.holding (state s h).line (ap (λ (x : Controller). x.cold-1.line) e)) _
+    _ (c.take-taken.ensures.holding (state s h).line (ap (λ (x : Controller). x.cold.line) e)) _
     c.with_line-controller.ensures _ _ _ _ _
     c.in-Line.is c.lined.ensures.value
     c.lined.ensures.buf_after)

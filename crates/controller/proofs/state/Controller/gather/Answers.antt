@@ -4,4 +4,5 @@ use Rattle.controller.proofs.state.Controller.gather.Goals as goal
 
 pub returns : goal.returns
 returns c =
-    gather_answers c.args.self c.args.bytes.now c.gather-gathered.result _ c.gather-gathered.ensures.holding c.with_line-controller.ensures c.requires
+    gather_answers c.args.self c.args.bytes.now c.gather-gathered.result _
+    c.gather-gathered.ensures.holding c.with_line-controller.ensures c.requires

@@ -8,6 +8,6 @@ use Rattle.controller.proofs.state.Controller.positions.Goals as goal
 
 pub returns : goal.returns
 returns c = record {
-  positions_of = λ s h e. ap (λ (x : Controller). x.hot-1.counters.positions) (sym e);
-  made = λ s h e. ap (λ (x : Controller). map position_of x.hot-1.counters.positions) (sym e) ∙ positions_signed s h;
+  positions_of = λ s h e. ap (λ (x : Controller). x.hot.counters.positions) (sym e);
+  made = λ s h e. ap (λ (x : Controller). map position_of x.hot.counters.positions) (sym e) ∙ positions_signed s h;
 }

@@ -4,4 +4,4 @@ use Rattle.controller.specs.declared.state.Controller.{Controller}
 use Rattle.controller.proofs.state.Controller.slope.Goals as goal
 
 pub returns : goal.returns
-returns c = λ s h e. ap (λ (x : Controller). x.cold-1.settings.slope) (sym e)
+returns c = λ s h e. ap (λ (x : Controller). x.cold.settings.slope) (sym e)

@@ -4,4 +4,4 @@ use Rattle.controller.specs.declared.state.Controller.{Controller}
 use Rattle.controller.proofs.state.Controller.speed.Goals as goal
 
 pub returns : goal.returns
-returns c = λ s h e. ap (λ (x : Controller). x.cold-1.settings.speed) (sym e)
+returns c = λ s h e. ap (λ (x : Controller). x.cold.settings.speed) (sym e)

@@ -3,7 +3,19 @@ use mathlib.Core.Path.{sym, ◌∙◌}
 use lib.ListN.{length}
 use Rattle.machine.specs.Calls.{state}
 use Rattle.machine.proofs.FitLaws.{fits}
-use Rattle.controller.proofs.EntryTickLaws.{took, take_fits, waited_is, stop_is, stop_fits, run_was, run_wires, run_travels, tick_is, tick_refused, tick_roomy}
+use Rattle.controller.proofs.EntryTickLaws.{
+  took,
+  take_fits,
+  waited_is,
+  stop_is,
+  stop_fits,
+  run_was,
+  run_wires,
+  run_travels,
+  tick_is,
+  tick_refused,
+  tick_roomy,
+}
 use Rattle.controller.proofs.ReachLaws.{tick_answers}
 use Rattle.controller.proofs.state.Controller.tick.Goals as goal
 

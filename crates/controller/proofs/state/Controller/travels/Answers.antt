@@ -4,4 +4,4 @@ use Rattle.controller.specs.declared.state.Controller.{Controller}
 use Rattle.controller.proofs.state.Controller.travels.Goals as goal
 
 pub returns : goal.returns
-returns c = λ s h e. ap (λ (x : Controller). x.hot-1.counters.travels) (sym e)
+returns c = λ s h e. ap (λ (x : Controller). x.hot.counters.travels) (sym e)
