@@ -16,7 +16,7 @@ use Rattle.line.specs.Ranges.{top_speed, reading_fits}
 use Rattle.line.specs.Codes.{is_inputs, is_query}
 use Rattle.line.specs.Line.{judge_row, judge_value}
 use Rattle.line.specs.Fits.{CommandFits}
-use Rattle.line.proofs.Ranges.{axis, distance, outputs, bits_low, by_order, by_setting, is_within}
+use Rattle.line.proofs.Ranges.{axis, distance, outputs, bits_low, by_order, by_setting, is_within_lem}
 use Rattle.host.specs.Writer.{letter_of, digits_of}
 use Rattle.host.proofs.Contents.{code_back, five_back, minus_low, minus_back, length_back, setting_low}
 
@@ -44,8 +44,8 @@ accept_setting : (k v : ℕ) → CommandFits (C.Set k v) → Taken (C.Set k v)
 unfolding judge_row
 accept_setting k v h =
     by_setting (λ (c w : ℕ). Taken (C.Set c w)) k v
-    (λ low high. rw (code_back 8 v (omega arith), five_back 8 v (omega arith), is_within v 1 top_speed low high))
-    (λ low high. rw (code_back 9 v (omega arith), five_back 9 v (omega arith), is_within v 1 4095 low high))
+    (λ low high. rw (code_back 8 v (omega arith), five_back 8 v (omega arith), is_within_lem v 1 top_speed low high))
+    (λ low high. rw (code_back 9 v (omega arith), five_back 9 v (omega arith), is_within_lem v 1 4095 low high))
     (λ high. rw (code_back 10 v (omega arith), five_back 10 v (omega arith), le-leb v 16383 high))
     (accept_watch v)
     (λ high. rw (code_back 12 v (omega arith), five_back 12 v (omega arith), le-leb v 4095 high))

@@ -92,7 +92,7 @@ module _ (d : List ℕ) where
         where
           old : get_or d (suc n) 0 ≤ get_or d b.axis 0 → (j : ℕ) → (t : Bool) → leb j n ≡ t → j ≤ suc n
               → get_or d j 0 ≤ get_or d b.axis 0
-          old h j true e l = b.over-all j (leb-true j n e)
+          old h j true e l = b.over_all j (leb-true j n e)
           old h j false e l =
               let k = leb-false j n e in
               let same : j ≡ suc n = omega arith in
@@ -100,7 +100,7 @@ module _ (d : List ℕ) where
 
           new : get_or d b.axis 0 < get_or d (suc n) 0 → (j : ℕ) → (t : Bool) → leb j n ≡ t → j ≤ suc n
               → get_or d j 0 ≤ get_or d (suc n) 0
-          new h j true e l = let k = b.over-all j (leb-true j n e) in omega arith
+          new h j true e l = let k = b.over_all j (leb-true j n e) in omega arith
           new h j false e l =
               let k = leb-false j n e in
               let same : j ≡ suc n = omega arith in
@@ -124,7 +124,7 @@ module _ (d : List ℕ) where
       five (λ (k : ℕ). Over k → Over 4)
       (λ o. absurd (false≢true (sym a ∙ is_over 0 o))) (λ o. absurd (false≢true (sym b ∙ is_over 1 o)))
       (λ o. absurd (false≢true (sym c ∙ is_over 2 o))) (λ o. absurd (false≢true (sym e ∙ is_over 3 o)))
-      (λ o. o) (best 4).axis (let h = (best 4).low in omega arith) (λ j h. (best 4).over-all j (omega arith))
+      (λ o. o) (best 4).axis (let h = (best 4).low in omega arith) (λ j h. (best 4).over_all j (omega arith))
 
   pub master_longest : Longest d (master_of d)
   unfolding master_of
