@@ -6,7 +6,7 @@ use Rattle.text.specs.Text.{writes}
 use Rattle.text.proofs.Text.characters.Given as goal
 
 abbrev pub invariant-loop-i : goal.invariant-loop-i
-invariant-loop-i l = (l.i ≤ length l.cs) × (l.initial.i ≡ writes l.initial.next (take l.i l.cs))
+invariant-loop-i l = (l.i ≤ length l.cs) × (l.next ≡ writes l.initial.next (take l.i l.cs))
 
 abbrev pub decreases-loop-i : goal.decreases-loop-i
 decreases-loop-i l = length l.cs - l.i

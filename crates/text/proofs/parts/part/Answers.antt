@@ -7,6 +7,10 @@ pub overflow_add-end : goal.overflow_add-end
 overflow_add-end c =
     omega (arith, part_short c.args.mark c.args.bytes.now _ _ c.length_of.ensures)
 
+pub slice_bounds-result-end : goal.slice_bounds-result-end
+slice_bounds-result-end c =
+    omega (arith, part_short c.args.mark c.args.bytes.now _ _ c.length_of.ensures)
+
 pub returns : goal.returns
 returns c =
-    part_here c.args.mark c.args.bytes.now _ _ c.length_of.ensures c.args.k c.start_of_lem.ensures.1
+    part_here c.args.mark c.args.bytes.now _ _ c.length_of.ensures c.args.k c.start_of-start.ensures.bytes_value

@@ -31,7 +31,7 @@ loop-i-preserved c =
     )
 
 pub overflow_add-result : goal.overflow_add-result
-overflow_add-result c = omega (arith, c.well-formed.0.1)
+overflow_add-result c = omega (arith, c.well_formed.0.1)
 
 pub returns : goal.returns
 returns c =

@@ -7,7 +7,8 @@ use Rattle.text.specs.Parts.{marks}
 use Rattle.text.proofs.parts.parts.Given as goal
 
 abbrev pub invariant-loop-i : goal.invariant-loop-i
-invariant-loop-i l = (l.i ≤ length l.bytes) × (l.initial.i ≤ l.i) × (marks l.mark l.bytes ≡ l.initial.i + marks l.mark (drop l.i l.bytes))
+invariant-loop-i l =
+    (l.i ≤ length l.bytes) × (l.n ≤ l.i) × (marks l.mark l.bytes ≡ l.n + marks l.mark (drop l.i l.bytes))
 
 abbrev pub decreases-loop-i : goal.decreases-loop-i
 decreases-loop-i l = length l.bytes - l.i
