@@ -1,5 +1,5 @@
 -- Numbers as people write them: decimal or hexadecimal, with a sign, and with a decimal fraction.
-use Rattle.std.specs.Prelude.{ℕ, ◌+◌, ◌-◌, ◌*◌, ◌/◌, ◌%◌, min, Bool, true, false, cond, List, [], ◌∷◌, ltb, leb, eqb, length, get_or, drop}
+use Rattle.std.specs.Prelude.{ℕ, ◌+◌, ◌-◌, ◌*◌, ◌/◌, ◌%◌, min, Bool, true, false, cond, List, [], ◌∷◌, ltb, eqb, length, get_or, drop}
 use Rattle.digits.specs.Digits.{digit_of}
 use Rattle.digits.specs.declared.Digit.{Digit}
 use Rattle.digits.specs.declared.Digit.TheVariants.{Other, Capital, Small}

@@ -8,7 +8,7 @@ use Rattle.numerals.specs.Numerals.{read_on}
 use Rattle.numerals.proofs.read.Given as goal
 
 abbrev pub invariant-loop-i : goal.invariant-loop-i
-invariant-loop-i l = read_on l.base (S.Number 0) l.cs ≡ read_on l.base l.initial.i (drop l.i l.cs)
+invariant-loop-i l = read_on l.base (S.Number 0) l.cs ≡ read_on l.base l.n (drop l.i l.cs)
 
 abbrev pub decreases-loop-i : goal.decreases-loop-i
 decreases-loop-i l = length l.cs - l.i

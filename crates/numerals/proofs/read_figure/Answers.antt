@@ -9,7 +9,9 @@ use Rattle.numerals.proofs.Laws.{but_first, minus_some}
 use Rattle.numerals.proofs.read_figure.Goals as goal
 
 pub slice_bounds-plain_figure-count : goal.slice_bounds-plain_figure-count
-slice_bounds-plain_figure-count c = omega (arith, (let it : 1 ≤ length c.args.cs.now = minus_some c.args.cs.now (sym c.has_minus.ensures ∙ c.if-has_minus.true) in it))
+slice_bounds-plain_figure-count c =
+    let one : 1 ≤ length c.args.cs.now = minus_some c.args.cs.now (sym c.has_minus.ensures ∙ c.if-has_minus.true) in
+    omega arith
 
 pub returns-then-has_minus : goal.returns-then-has_minus
 returns-then-has_minus c =
