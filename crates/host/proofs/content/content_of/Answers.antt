@@ -11,12 +11,14 @@ use Rattle.host.proofs.content.content_of.Goals as goal
 
 pub distance_digits-requires : goal.distance_digits-requires
 distance_digits-requires c =
-    (distance c.in-Distance.axis c.in-Distance.minus c.in-Distance.length (subst CommandFits c.in-Distance.is c.requires)).1
+    let a = c.in-Distance in
+    (distance a.axis a.minus a.length (subst CommandFits a.is c.requires)).1
 
 pub coded-requires : goal.coded-requires
 coded-requires c =
-    let h = (distance c.in-Distance.axis c.in-Distance.minus c.in-Distance.length (subst CommandFits c.in-Distance.is c.requires)).1 in
-    rw c.distance_digits.ensures (minus_low c.in-Distance.minus c.in-Distance.length h)
+    let a = c.in-Distance in
+    let h = (distance a.axis a.minus a.length (subst CommandFits a.is c.requires)).1 in
+    rw c.distance_digits.ensures (minus_low a.minus a.length h)
 
 pub setting-requires : goal.setting-requires
 setting-requires c = subst CommandFits c.in-Set.is c.requires

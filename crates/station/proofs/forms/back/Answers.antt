@@ -20,8 +20,10 @@ returns-then-after-eq0 c =
 
 pub returns-then-after-eq-SPACE : goal.returns-then-after-eq-SPACE
 returns-then-after-eq-SPACE c =
-    on_eq (get_or c.part-after.result.now 0 0) 32 _ _ _ c.if-after-eq-SPACE.true c.rest.ensures ∙ ap unspaced c.part-after.ensures
+    on_eq (get_or c.part-after.result.now 0 0) 32 _ _ _ c.if-after-eq-SPACE.true c.rest.ensures
+    ∙ ap unspaced c.part-after.ensures
 
 pub returns : goal.returns
 returns c =
-    on_ne (get_or c.part-after.result.now 0 0) 32 _ _ _ c.if-after-eq-SPACE.false refl ∙ ap unspaced c.part-after.ensures
+    on_ne (get_or c.part-after.result.now 0 0) 32 _ _ _ c.if-after-eq-SPACE.false refl
+    ∙ ap unspaced c.part-after.ensures

@@ -17,6 +17,5 @@ pub returns : goal.returns
 unfolding form_of
 returns c =
     on_true _ _ _ _ (sym c.is_ended.ensures ∙ not-false _ c.if-not-is_ended.false-raw)
-    (c.form_as.ensures
-    ∙ (λ i. held_form (form_as (c.name_of.ensures i) (c.text_of.ensures i))))
+    (c.form_as.ensures ∙ (λ i. held_form (form_as (c.name_of.ensures i) (c.text_of.ensures i))))
     ∙ choice (is_ended c.args.command.now) (form_as (name_of c.args.command.now) (text_of c.args.command.now)) other

@@ -13,8 +13,7 @@ returns-then-parts-ne2 c =
 
 pub returns : goal.returns
 returns c =
-    let x = c.point_in-x.ensures
-    ∙ ap (point_of 1 (chars "X")) c.part.ensures in
+    let x = c.point_in-x.ensures ∙ ap (point_of 1 (chars "X")) c.part.ensures in
     let y = c.point_in-y.ensures ∙ ap (point_of 0 (chars "Y")) c.back.ensures in
     on_eq (parts 44 c.args.t.now) 2 _ _ _ (sym c.parts.ensures ∙ c.if-parts-ne2.false)
     (c.both.ensures ∙ (λ i. both_of (x i) (y i)))
