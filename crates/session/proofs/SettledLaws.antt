@@ -27,6 +27,6 @@ silent_is = ap (λ (m : Machine). prints (at_line m) (fed ("W0ABCDEF1" ∷ [])))
 
 pub settles_is : prints (at_line settling) (fed ("T 1 123456" ∷ [])) ≡ fed ("R01234561" ∷ "1 0 0 0 0" ∷ [])
 unfolding
-    run prints judge_of judge_row number_of inputs_of block_of six_of blocks_of sum_of sums_text decimal_of spell asked_of count_of
-    read_on
+    run prints judge_of judge_row number_of inputs_of block_of six_of blocks_of sum_of sums_text decimal_of spell asked_of
+    count_of read_on
 settles_is = refl

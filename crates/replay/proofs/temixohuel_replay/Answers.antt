@@ -8,15 +8,12 @@ use Rattle.replay.specs.Replay.{seen_after, replayed}
 use Rattle.replay.proofs.PlayLaws.{after_none, after_reach, after_next}
 use Rattle.replay.proofs.temixohuel_replay.Goals as goal
 
-pub begin-played-requires : goal.begin-played-requires
-begin-played-requires c = tt
-
 pub loop-j-init : goal.loop-j-init
 loop-j-init c =
     (omega arith, refl, after_none c.args.switch c.args.calls.now c.begin-played.result c.begin-played.ensures)
 
 pub overflow_mul-at : goal.overflow_mul-at
-overflow_mul-at c = omega (arith, c.well-formed.1.0.0)
+overflow_mul-at c = omega arith
 
 pub overflow_add-at : goal.overflow_add-at
 overflow_add-at c = omega arith

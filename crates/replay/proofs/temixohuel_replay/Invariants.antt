@@ -8,7 +8,7 @@ use Rattle.replay.proofs.temixohuel_replay.Given as goal
 
 abbrev pub invariant-loop-j : goal.invariant-loop-j
 invariant-loop-j l =
-    (l.j ≤ l.n) × (l.n ≡ length l.calls / 9) × (l.initial.j ≡ held_seen l.switch (seen_after l.switch l.calls l.j))
+    (l.j ≤ l.n) × (l.n ≡ length l.calls / 9) × (l.played ≡ held_seen l.switch (seen_after l.switch l.calls l.j))
 
 abbrev pub decreases-loop-j : goal.decreases-loop-j
 decreases-loop-j l = l.n - l.j

@@ -24,9 +24,6 @@ bounds-positions-k c = omega arith
 pub overflow_cast-k : goal.overflow_cast-k
 overflow_cast-k c = omega arith
 
-pub mix-digest-requires : goal.mix-digest-requires
-mix-digest-requires c = tt
-
 pub overflow_add-k : goal.overflow_add-k
 overflow_add-k c = omega arith
 

@@ -6,7 +6,7 @@ use Rattle.replay.proofs.digest.axes.Given as goal
 
 abbrev pub invariant-loop-k : goal.invariant-loop-k
 invariant-loop-k l =
-    (l.k ≤ 5) × (l.initial.k ≡ mixed_axes (travel_at l.travels) (place_at l.positions) l.h l.k)
+    (l.k ≤ 5) × (l.digest ≡ mixed_axes (travel_at l.travels) (place_at l.positions) l.h l.k)
 
 abbrev pub decreases-loop-k : goal.decreases-loop-k
 decreases-loop-k l = 5 - l.k

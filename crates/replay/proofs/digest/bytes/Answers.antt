@@ -17,9 +17,6 @@ bounds-buf-i c = omega arith
 pub overflow_cast-buf : goal.overflow_cast-buf
 overflow_cast-buf c = omega (arith, c.shared_slice_known-in-loop-i-1.given c.loop-i.i)
 
-pub mix-digest-requires : goal.mix-digest-requires
-mix-digest-requires c = tt
-
 pub overflow_add-i : goal.overflow_add-i
 overflow_add-i c = omega arith
 

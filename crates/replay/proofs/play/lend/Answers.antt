@@ -10,12 +10,12 @@ use Rattle.replay.proofs.play.lend.Goals as goal
 pub overflow_cast-length : goal.overflow_cast-length
 overflow_cast-length c =
     let n : c.byte-a.result.length ≤ length c.args.buf.now =
-    answer_room (state c.requires.0.switch c.requires.0.history) c.args.b c.args.buf.now c.byte-a.result
-    (c.byte-a.ensures.0 c.requires.0.switch c.requires.0.history c.requires.0.made) in
-    record { fits = omega (arith, c.requires.1) }
+    answer_room (state c.requires.reachable.switch c.requires.reachable.history) c.args.b c.args.buf.now c.byte-a.result
+    (c.byte-a.ensures.0 c.requires.reachable.switch c.requires.reachable.history c.requires.reachable.made) in
+    record { fits = omega (arith, c.requires.buf_len_bound) }
 
 pub returns : goal.returns
 returns c =
-    λ s h e. byte_part s h c.args.b c.args.buf.now c.args.was.digest c.byte-a.result c.byte-a.new.1.0 _ _
+    λ s h e. byte_part s h c.args.b c.args.buf.now c.args.was.digest c.byte-a.result c.byte-a.new.buf _ _
     (c.byte-a.ensures.0 s h e) (c.byte-a.ensures.1.0 s h e) c.mix-answered.ensures c.args.whole _
     c.part-counted.ensures c.bytes-digest.ensures

@@ -24,7 +24,7 @@ pub loop-i-preserved : goal.loop-i-preserved
 loop-i-preserved c = (
   omega arith,
   c.loop-i.invariant.1,
-  c.tick-next.auto.1.0 ∙ c.loop-i.invariant.2,
+  c.tick-next.auto.buf ∙ c.loop-i.invariant.2,
   tick_next c.args.word c.args.buf.now c.args.was c.loop-i.i c.loop-i.played c.tick-next.result c.loop-i.buf c.loop-i.invariant.2 c.loop-i.invariant.3
       c.tick-next.ensures.plays,
   lent_next c.args.word c.args.buf.now c.args.was c.loop-i.i c.loop-i.played c.loop-i.buf _ c.loop-i.invariant.2 c.loop-i.invariant.3 c.loop-i.invariant.4

@@ -9,8 +9,9 @@ use Rattle.replay.proofs.play.run.Given as goal
 
 abbrev pub invariant-loop-i : goal.invariant-loop-i
 invariant-loop-i l =
-    (l.i ≤ l.word) × Reachable l.count.controller × (length l.played ≡ length l.initial.buf) × Ticking l.buf l.initial.buf l.count l.i l.initial.i
-    × Lent l.buf l.initial.buf l.count l.i l.played
+    (l.i ≤ l.count) × Reachable l.initial.played.controller × (length l.buf ≡ length l.initial.buf)
+    × Ticking l.word l.initial.buf l.initial.played l.i l.played
+    × Lent l.word l.initial.buf l.initial.played l.i l.buf
 
 abbrev pub decreases-loop-i : goal.decreases-loop-i
-decreases-loop-i l = l.word - l.i
+decreases-loop-i l = l.count - l.i

@@ -5,7 +5,7 @@ use Rattle.replay.proofs.play.tick.Goals as goal
 pub returns : goal.returns
 returns c =
     record {
-      plays = λ s h e. tick_is s h c.args.word c.args.was.digest c.args.buf.now c.tick-a.new.1.0 c.tick-a.result _ _ _ _
+      plays = λ s h e. tick_is s h c.args.word c.args.was.digest c.args.buf.now c.tick-a.new.buf c.tick-a.result _ _ _ _
           (c.tick-a.ensures.0 s h e) (c.tick-a.ensures.1.0 s h e) c.with_block-shown.ensures c.entered-entered.ensures
           c.tick_code-code.ensures c.mix-digest.ensures;
       lends = λ s h e. c.tick-a.ensures.1.0 s h e;

@@ -8,7 +8,7 @@ use Rattle.screen.proofs.lines.wine_lines.Given as goal
 
 abbrev pub invariant-loop-k : goal.invariant-loop-k
 invariant-loop-k l =
-    (l.k ≤ 5) × (l.initial.k ≡ writes l.initial.next (wine_lines l.k l.trial)) × (length (wine_lines l.k l.trial) ≤ l.k * 36)
+    (l.k ≤ 5) × (l.next ≡ writes l.initial.next (wine_lines l.k l.trial)) × (length (wine_lines l.k l.trial) ≤ l.k * 36)
 
 abbrev pub decreases-loop-k : goal.decreases-loop-k
 decreases-loop-k l = 5 - l.k

@@ -5,7 +5,8 @@ use Rattle.screen.specs.Screen.{pulses_in}
 use Rattle.screen.proofs.shares.all_pulses.Given as goal
 
 abbrev pub invariant-loop-k : goal.invariant-loop-k
-invariant-loop-k l = (l.k ≤ 5) × (l.initial.k ≤ l.k * 4294967295) × (l.initial.k ≡ pulses_in l.k l.trial)
+invariant-loop-k l =
+    (l.k ≤ 5) × (l.sum ≤ l.k * 4294967295) × (l.sum ≡ pulses_in l.k l.trial)
 
 abbrev pub decreases-loop-k : goal.decreases-loop-k
 decreases-loop-k l = 5 - l.k

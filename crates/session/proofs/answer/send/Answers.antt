@@ -7,15 +7,17 @@ use Rattle.session.proofs.answer.send.Goals as goal
 
 pub show-requires : goal.show-requires
 show-requires c =
+    let r = c.requires.reachable in
     omega (
       arith,
-      ap (λ x. x.length) (c.byte-a.ensures.0 c.requires.0.switch c.requires.0.history c.requires.0.made),
-      c.byte-a.auto.1.0,
-      c.requires.1,
-      reply_size (state c.requires.0.switch c.requires.0.history) c.args.b c.args.buf.now,
+      ap (λ x. x.length) (c.byte-a.ensures.0 r.switch r.history r.made),
+      c.byte-a.auto.buf,
+      c.requires.in_bounds,
+      reply_size (state r.switch r.history) c.args.b c.args.buf.now,
     )
 
 pub returns : goal.returns
 returns c =
-    λ s h e. sent_is (state s h) c.args.b c.args.buf.now c.byte-a.result c.byte-a.new.1.0 c.show.new.0 c.requires.1
-    (c.byte-a.ensures.0 s h e) (c.byte-a.ensures.1.0 s h e) c.show.ensures
+    let a = c.byte-a in
+    λ s h e. sent_is (state s h) c.args.b c.args.buf.now a.result a.new.buf c.show.new.buf c.requires.in_bounds
+    (a.ensures.0 s h e) (a.ensures.1.0 s h e) c.show.ensures

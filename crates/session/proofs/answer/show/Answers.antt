@@ -14,9 +14,6 @@ loop-i-init c = (omega arith, c.requires, refl, show_none c.args.buf.now)
 pub bounds-buf-i : goal.bounds-buf-i
 bounds-buf-i c = omega arith
 
-pub shown_byte-requires : goal.shown_byte-requires
-shown_byte-requires c = tt
-
 pub bounds-buf-i-in-loop-i : goal.bounds-buf-i-in-loop-i
 bounds-buf-i-in-loop-i c = omega arith
 

@@ -9,7 +9,8 @@ use Rattle.session.proofs.answer.show.Given as goal
 
 abbrev pub invariant-loop-i : goal.invariant-loop-i
 invariant-loop-i l =
-    (l.i ≤ l.buf) × (l.buf ≤ length l.initial.buf) × (length l.initial.i ≡ length l.initial.buf) × (l.initial.i ≡ over (shown (take l.i l.initial.buf)) l.initial.buf)
+    (l.i ≤ l.n) × (l.n ≤ length l.initial.buf) × (length l.buf ≡ length l.initial.buf)
+    × (l.buf ≡ over (shown (take l.i l.initial.buf)) l.initial.buf)
 
 abbrev pub decreases-loop-i : goal.decreases-loop-i
-decreases-loop-i l = l.buf - l.i
+decreases-loop-i l = l.n - l.i

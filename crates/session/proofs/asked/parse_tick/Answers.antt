@@ -27,5 +27,6 @@ returns-then-second-ne-SPACE c = search picks depth 8
 
 pub returns : goal.returns
 returns c =
-    line_asked c.args.line.now (omega arith) (omega arith) _ _ _ c.if-letter-ne-LETTER.false c.if-first-ne-SPACE.false c.if-second-ne-SPACE.false
+    line_asked c.args.line.now (omega arith) (omega arith) _ _ _
+    c.if-letter-ne-LETTER.false c.if-first-ne-SPACE.false c.if-second-ne-SPACE.false
     c.read_count-count.ensures c.read_word-word.ensures c.asked_by.ensures

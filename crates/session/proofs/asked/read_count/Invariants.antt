@@ -7,7 +7,8 @@ use Rattle.session.specs.Asked.{read_on, count_of}
 use Rattle.session.proofs.asked.read_count.Given as goal
 
 abbrev pub invariant-loop-i : goal.invariant-loop-i
-invariant-loop-i l = (l.i ≤ length l.cs) × (l.initial.i ≤ 1000000) × (count_of l.cs ≡ read_on l.initial.i (drop l.i l.cs))
+invariant-loop-i l =
+    (l.i ≤ length l.cs) × (l.n ≤ 1000000) × (count_of l.cs ≡ read_on l.n (drop l.i l.cs))
 
 abbrev pub decreases-loop-i : goal.decreases-loop-i
 decreases-loop-i l = length l.cs - l.i

@@ -14,7 +14,8 @@ bounds-bytes-i c = omega arith
 
 pub returns-then-is_mark : goal.returns-then-is_mark
 returns-then-is_mark c =
-    let k = before_mark_lem is_mark c.args.bytes.now c.loop-i.i (omega arith) (sym c.is_mark.ensures ∙ c.if-is_mark.true) in
+    let k = before_mark_lem is_mark c.args.bytes.now c.loop-i.i (omega arith)
+    (sym c.is_mark.ensures ∙ c.if-is_mark.true) in
     omega (arith, k, c.loop-i.invariant.1)
 
 pub overflow_add-i : goal.overflow_add-i
@@ -25,7 +26,8 @@ loop-i-smaller c = omega arith
 
 pub loop-i-preserved : goal.loop-i-preserved
 loop-i-preserved c =
-    let k = before_next is_mark c.args.bytes.now c.loop-i.i (omega arith) (sym c.is_mark.ensures ∙ c.if-is_mark.false) in
+    let k = before_next is_mark c.args.bytes.now c.loop-i.i (omega arith)
+    (sym c.is_mark.ensures ∙ c.if-is_mark.false) in
     (omega arith, omega (arith, k, c.loop-i.invariant.1))
 
 pub returns : goal.returns

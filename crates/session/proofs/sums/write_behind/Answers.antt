@@ -5,14 +5,14 @@ use Rattle.session.proofs.sums.write_behind.Goals as goal
 
 pub overflow_add-result : goal.overflow_add-result
 overflow_add-result c =
-    let b = behind c.args.sums c.args.buf.now c.args.at c.write_sums.result c.write_sums.new.0
-    c.requires c.write_sums.ensures.value c.write_sums.ensures.buf_after c.write_sums.auto.0 in
-    omega (arith, b.room, c.well-formed.0.0)
+    let b = behind c.args.sums c.args.buf.now c.args.at c.write_sums.result c.write_sums.new.buf
+    c.requires c.write_sums.ensures.value c.write_sums.ensures.buf_after c.write_sums.auto.buf in
+    omega (arith, b.room)
 
 pub returns : goal.returns
 returns c =
-    let b = behind c.args.sums c.args.buf.now c.args.at c.write_sums.result c.write_sums.new.0
-    c.requires c.write_sums.ensures.value c.write_sums.ensures.buf_after c.write_sums.auto.0 in
+    let b = behind c.args.sums c.args.buf.now c.args.at c.write_sums.result c.write_sums.new.buf
+    c.requires c.write_sums.ensures.value c.write_sums.ensures.buf_after c.write_sums.auto.buf in
     record {
       value = b.place;
       buf_after = b.whole;

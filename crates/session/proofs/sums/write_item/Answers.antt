@@ -4,28 +4,24 @@ use Rattle.session.proofs.TextLaws.{sign_room, mark_room, item_written}
 use Rattle.session.proofs.sums.write_item.Goals as goal
 
 pub write_number-end-requires : goal.write_number-end-requires
-write_number-end-requires c =
-    sign_room c.args.at c.args.minus c.args.n c.args.buf.now c.ranges.n.fits c.requires
+write_number-end-requires c = sign_room c.args.at c.args.minus c.args.n c.args.buf.now c.ranges.n.fits c.requires
 
 pub bounds-buf-end : goal.bounds-buf-end
 bounds-buf-end c =
+    let w = c.write_number-end in
     mark_room c.args.at c.args.minus c.args.n c.args.buf.now c.ranges.n.fits c.requires
-    c.write_number-end.result c.write_number-end.new.0 c.write_number-end.ensures.value c.write_number-end.auto.0
+    w.result w.new.buf w.ensures.value w.auto.buf
 
 pub overflow_add-result : goal.overflow_add-result
 overflow_add-result c =
-    record {
-      fits = omega (
-        arith,
-        c.well-formed.0.0,
-        c.write_number-end.auto.0,
-        mark_room c.args.at c.args.minus c.args.n c.args.buf.now c.ranges.n.fits c.requires
-            c.write_number-end.result c.write_number-end.new.0 c.write_number-end.ensures.value c.write_number-end.auto.0,
-      );
-    }
+    let w = c.write_number-end in
+    let room = mark_room c.args.at c.args.minus c.args.n c.args.buf.now c.ranges.n.fits c.requires
+    w.result w.new.buf w.ensures.value w.auto.buf in
+    record { fits = omega (arith, w.auto.buf, room) }
 
 pub returns : goal.returns
 returns c =
-    item_written c.args.at c.args.minus c.args.n c.args.buf.now c.ranges.n.fits c.requires
-    c.write_number-end.result c.write_number-end.new.0 c.write_number-end.ensures.value c.write_number-end.auto.0 c.args.k c.mark.result c.write_number-end.ensures.buf_after
-    c.mark.ensures
+    let w = c.write_number-end in
+    let t = item_written c.args.at c.args.minus c.args.n c.args.buf.now c.ranges.n.fits c.requires
+    w.result w.new.buf w.ensures.value w.auto.buf c.args.k c.mark.result w.ensures.buf_after c.mark.ensures in
+    record { value = t.0; buf_after = t.1.0; upper_bound = t.1.1 }

@@ -15,12 +15,14 @@ write_decimal-requires c =
     (minus_room c.args.at c.args.minus c.args.n c.args.buf.now c.if-minus.true c.requires)
 
 pub shape_of-buf-then-minus : goal.shape_of-buf-then-minus
-shape_of-buf-then-minus c = c.write_decimal.auto.0 ∙ simp length-set
+shape_of-buf-then-minus c = c.write_decimal.auto.buf ∙ simp length-set
 
 pub returns-then-minus : goal.returns-then-minus
 returns-then-minus c =
-    minus_written c.args.at c.args.minus c.args.n c.args.buf.now c.write_decimal.result c.write_decimal.new.0
-    c.if-minus.true c.requires c.write_decimal.ensures.0 c.write_decimal.ensures.1
+    let w = c.write_decimal in
+    let t = minus_written c.args.at c.args.minus c.args.n c.args.buf.now w.result w.new.buf c.if-minus.true c.requires
+    w.ensures.0 w.ensures.1 in
+    record { value = t.0; buf_after = t.1 }
 
 pub write_decimal-requires-2 : goal.write_decimal-requires-2
 write_decimal-requires-2 c =
@@ -28,5 +30,7 @@ write_decimal-requires-2 c =
 
 pub returns : goal.returns
 returns c =
-    plus_written c.args.at c.args.minus c.args.n c.args.buf.now c.write_decimal-2.result c.write_decimal-2.new.0
-    c.if-minus.false c.write_decimal-2.ensures.0 c.write_decimal-2.ensures.1
+    let w = c.write_decimal-2 in
+    let t = plus_written c.args.at c.args.minus c.args.n c.args.buf.now w.result w.new.buf c.if-minus.false
+    w.ensures.0 w.ensures.1 in
+    record { value = t.0; buf_after = t.1 }

@@ -16,7 +16,9 @@ use Rattle.session.proofs.SignLaws.{elem_sfits}
 use Rattle.session.proofs.sums.write_sums.Goals as goal
 
 pub returns-then-buf-lt-ROOM : goal.returns-then-buf-lt-ROOM
-returns-then-buf-lt-ROOM c = no_room c.args.sums c.args.buf.now c.if-buf-lt-ROOM.true
+returns-then-buf-lt-ROOM c =
+    let t = no_room c.args.sums c.args.buf.now c.if-buf-lt-ROOM.true in
+    record { value = t.0; buf_after = t.1 }
 
 pub loop-k-init : goal.loop-k-init
 unfolding sums_text
@@ -29,28 +31,16 @@ offset_bounds-sums-k c = record { fits = omega arith }
 pub bounds-sums-k : goal.bounds-sums-k
 bounds-sums-k c = omega arith
 
-pub is_minus-minus-requires : goal.is_minus-minus-requires
-is_minus-minus-requires c = tt
-
 pub offset_bounds-sums-k-in-loop-k : goal.offset_bounds-sums-k-in-loop-k
 offset_bounds-sums-k-in-loop-k c = record { fits = omega arith }
 
 pub bounds-sums-k-in-loop-k : goal.bounds-sums-k-in-loop-k
 bounds-sums-k-in-loop-k c = omega arith
 
-pub size-n-requires : goal.size-n-requires
-size-n-requires c = tt
-
 pub write_item-at-requires : goal.write_item-at-requires
 write_item-at-requires c =
-    omega (
-      arith,
-      c.loop-k.invariant.0,
-      c.loop-k.invariant.1,
-      c.loop-k.invariant.2,
-      c.loop-k.invariant.3,
-      c.loop-k-test.true,
-    )
+    let l = c.loop-k.invariant in
+    omega (arith, l.0, l.1, l.2, l.3, c.loop-k-test.true)
 
 pub overflow_step-k : goal.overflow_step-k
 overflow_step-k c =
@@ -65,10 +55,10 @@ loop-k-preserved c =
       omega (arith, c.loop-k-test.true),
       omega (arith, c.loop-k.invariant.1, c.write_item-at.ensures.upper_bound),
       c.loop-k.invariant.2,
-      c.write_item-at.auto.0 ∙ c.loop-k.invariant.3,
+      c.write_item-at.auto.buf ∙ c.loop-k.invariant.3,
       next_written c.args.sums c.args.buf.now c.loop-k.k c.loop-k.at c.write_item-at.result
           c.size-n.result
-          c.is_minus-minus.result c.loop-k.buf c.write_item-at.new.0
+          c.is_minus-minus.result c.loop-k.buf c.write_item-at.new.buf
           c.loop-k.invariant.4.0 c.loop-k.invariant.4.1
           (answered is_minus w32 _ _ f c.is_minus-minus.ensures)
           (answered nat_abs w32 _ _ f c.size-n.ensures)
@@ -81,6 +71,7 @@ shape_of-buf c = c.loop-k.invariant.3
 pub returns : goal.returns
 returns c =
     let e : c.loop-k.k ≡ 5 = omega (arith, c.loop-k.invariant.0, c.loop-k-test.false) in
-    with_room c.args.sums c.args.buf.now c.loop-k.at c.loop-k.buf c.loop-k.invariant.2
+    let t = with_room c.args.sums c.args.buf.now c.loop-k.at c.loop-k.buf c.loop-k.invariant.2
     (c.loop-k.invariant.4.0 ∙ ap (λ k. length (sums_text k c.args.sums)) e)
-    (c.loop-k.invariant.4.1 ∙ ap (λ k. over (sums_text k c.args.sums) c.args.buf.now) e)
+    (c.loop-k.invariant.4.1 ∙ ap (λ k. over (sums_text k c.args.sums) c.args.buf.now) e) in
+    record { value = t.0; buf_after = t.1 }

@@ -9,8 +9,8 @@ use Rattle.session.proofs.sums.write_sums.Given as goal
 
 abbrev pub invariant-loop-k : goal.invariant-loop-k
 invariant-loop-k l =
-    (l.k ≤ 5) × (l.initial.k ≤ 12 * l.k) × (60 ≤ length l.initial.buf) × (length l.at ≡ length l.initial.buf)
-    × ((l.initial.k ≡ length (sums_text l.k l.buf)) × (l.at ≡ over (sums_text l.k l.buf) l.initial.buf))
+    (l.k ≤ 5) × (l.at ≤ 12 * l.k) × (60 ≤ length l.initial.buf) × (length l.buf ≡ length l.initial.buf)
+    × ((l.at ≡ length (sums_text l.k l.sums)) × (l.buf ≡ over (sums_text l.k l.sums) l.initial.buf))
 
 abbrev pub decreases-loop-k : goal.decreases-loop-k
 decreases-loop-k l = 5 - l.k

@@ -14,9 +14,9 @@ use Rattle.session.proofs.ticks.run_ticks.Goals as goal
 pub loop-i-init : goal.loop-i-init
 loop-i-init c = (
   omega arith,
-  c.requires.0,
-  c.requires.0,
-  c.requires.1,
+  c.requires.reachable,
+  c.requires.reachable,
+  c.requires.in_bounds,
   refl,
   λ s h e. none_ran s c.args.word h c.args.c e,
   λ s h e. none_yet c.args.word (state s h) c.args.buf.now,
@@ -24,11 +24,13 @@ loop-i-init c = (
 
 pub ticked-next-requires : goal.ticked-next-requires
 ticked-next-requires c =
+    let v = c.loop-i.invariant in
+    let r = v.2 in
     record {
-      reachable = c.loop-i.invariant.1;
-      small = sums_small c.loop-i.invariant.2.switch c.args.word c.loop-i.invariant.2.history c.loop-i.i _
-          (ap (λ x. x.sums) (c.loop-i.invariant.5 c.loop-i.invariant.2.switch c.loop-i.invariant.2.history c.loop-i.invariant.2.made));
-      in_bounds = c.loop-i.invariant.3;
+      reachable = v.1;
+      small = sums_small r.switch c.args.word r.history c.loop-i.i _
+          (ap (λ x. x.sums) (v.5 r.switch r.history r.made));
+      in_bounds = v.3;
     }
 
 pub overflow_add-i : goal.overflow_add-i
@@ -38,32 +40,36 @@ pub loop-i-smaller : goal.loop-i-smaller
 loop-i-smaller c = omega arith
 
 pub loop-i-preserved : goal.loop-i-preserved
-loop-i-preserved c = (
-  omega arith,
-  record {
-    switch = c.loop-i.invariant.1.switch;
-    history = tick c.args.word buffer ∷ c.loop-i.invariant.1.history;
-    made =
-        next_made c.loop-i.invariant.1.switch c.args.word c.loop-i.invariant.1.history c.ticked-next.result c.loop-i.ran
-        (c.ticked-next.ensures.made c.loop-i.invariant.1.switch c.loop-i.invariant.1.history c.loop-i.invariant.1.made);
-  },
-  c.loop-i.invariant.2,
-  omega (arith, c.ticked-next.auto.1.0, c.loop-i.invariant.3),
-  c.ticked-next.auto.1.0 ∙ c.loop-i.invariant.4,
-  λ s h e. next_ran s c.args.word h c.loop-i.i c.loop-i.ran c.ticked-next.result (c.loop-i.invariant.5 s h e)
-      (c.ticked-next.ensures.made s (ticks c.loop-i.i c.args.word h)
-      (ap held (past_state s c.args.word h c.loop-i.i) ∙ sym (ap (λ x. x.controller) (c.loop-i.invariant.5 s h e)))),
-  λ s h e. next_buffer s c.args.word h c.loop-i.i c.args.buf.now c.loop-i.buf _ (c.loop-i.invariant.6 s h e)
-      (c.ticked-next.ensures.made_2 s (ticks c.loop-i.i c.args.word h)
-      (ap held (past_state s c.args.word h c.loop-i.i) ∙ sym (ap (λ x. x.controller) (c.loop-i.invariant.5 s h e)))),
-)
+loop-i-preserved c =
+    let v = c.loop-i.invariant in
+    let r = v.1 in
+    let t = c.ticked-next in
+    let w = c.args.word in
+    let n = c.loop-i.i in (
+      omega arith,
+      record {
+        switch = r.switch;
+        history = tick w buffer ∷ r.history;
+        made = next_made r.switch w r.history t.result c.loop-i.ran (t.ensures.made r.switch r.history r.made);
+      },
+      v.2,
+      omega (arith, t.auto.buf, v.3),
+      t.auto.buf ∙ v.4,
+      λ s h e. next_ran s w h n c.loop-i.ran t.result (v.5 s h e)
+          (t.ensures.made s (ticks n w h)
+          (ap held (past_state s w h n) ∙ sym (ap (λ x. x.controller) (v.5 s h e)))),
+      λ s h e. next_buffer s w h n c.args.buf.now c.loop-i.buf _ (v.6 s h e)
+          (t.ensures.made_2 s (ticks n w h)
+          (ap held (past_state s w h n) ∙ sym (ap (λ x. x.controller) (v.5 s h e)))),
+    )
 
 pub shape_of-buf : goal.shape_of-buf
 shape_of-buf c = c.loop-i.invariant.4
 
 pub returns : goal.returns
 returns c =
+    let v = c.loop-i.invariant in
     let n : c.loop-i.i ≡ c.args.count = omega arith in record {
-      made = λ s h e. c.loop-i.invariant.5 s h e ∙ ap (λ k. ran_of k c.args.word (state s h)) n;
-      made_2 = λ s h e. c.loop-i.invariant.6 s h e ∙ ap (λ k. over (blocks_of k c.args.word (state s h)) c.args.buf.now) n;
+      made = λ s h e. v.5 s h e ∙ ap (λ k. ran_of k c.args.word (state s h)) n;
+      made_2 = λ s h e. v.6 s h e ∙ ap (λ k. over (blocks_of k c.args.word (state s h)) c.args.buf.now) n;
     }

@@ -10,9 +10,10 @@ use Rattle.session.proofs.ticks.run_ticks.Given as goal
 
 abbrev pub invariant-loop-i : goal.invariant-loop-i
 invariant-loop-i l =
-    (l.i ≤ l.buf) × Reachable l.initial.i.controller × Reachable l.word.controller × (120 ≤ length l.ran)
-    × (length l.ran ≡ length l.initial.buf) × Made l.word.controller (λ m. l.initial.i ≡ ran_of l.i l.count m)
-    × Made l.word.controller (λ m. l.ran ≡ over (blocks_of l.i l.count m) l.initial.buf)
+    (l.i ≤ l.count) × Reachable l.ran.controller × Reachable l.initial.ran.controller × (120 ≤ length l.buf)
+    × (length l.buf ≡ length l.initial.buf)
+    × Made l.initial.ran.controller (λ m. l.ran ≡ ran_of l.i l.word m)
+    × Made l.initial.ran.controller (λ m. l.buf ≡ over (blocks_of l.i l.word m) l.initial.buf)
 
 abbrev pub decreases-loop-i : goal.decreases-loop-i
-decreases-loop-i l = l.buf - l.i
+decreases-loop-i l = l.count - l.i

@@ -13,23 +13,26 @@ use Rattle.session.proofs.ticks.ticked.Goals as goal
 
 pub added-more-requires : goal.added-more-requires
 added-more-requires c =
-    let m = state c.requires.0.switch c.requires.0.history in
+    let r = c.requires.reachable in
+    let m = state r.switch r.history in
     subst (λ (ps : List ℤ). Rooms c.args.ran.sums ps)
-    (sym (ap (λ x. x.pulses-1) (c.tick-a.ensures.0 c.requires.0.switch c.requires.0.history c.requires.0.made
-    ∙ ap held_tick (any_lent m c.args.word c.args.buf.now c.requires.1.1))))
-    (rooms c.requires.0.switch c.args.word c.requires.0.history c.args.ran.sums c.requires.1.0)
+    (sym (ap (λ x. x.pulses) (c.tick-a.ensures.0 r.switch r.history r.made
+    ∙ ap held_tick (any_lent m c.args.word c.args.buf.now c.requires.in_bounds))))
+    (rooms r.switch c.args.word r.history c.args.ran.sums c.requires.small)
 
 pub returns : goal.returns
 returns c =
-    record {
+    let n = c.args.ran in
+    let d = c.args.buf.now in
+    let a = c.tick-a in record {
       made = λ s h e.
-          let q = c.tick-a.ensures.0 s h e ∙ ap held_tick (any_lent (state s h) c.args.word c.args.buf.now c.requires.1.1) in
+          let q = a.ensures.0 s h e ∙ ap held_tick (any_lent (state s h) c.args.word d c.requires.in_bounds) in
           λ i. record {
             controller = (q i).controller;
-            sums = (c.added-more.ensures ∙ ap (λ x. added_of c.args.ran.sums x.pulses-1) q) i;
-            number = (c.later-number.ensures ∙ ap (λ x. later_of c.args.ran.number x.number) q) i;
-            length = (c.later-length.ensures ∙ ap (λ x. later_of c.args.ran.length x.length) q) i;
+            sums = (c.added-more.ensures ∙ ap (λ x. added_of n.sums x.pulses) q) i;
+            number = (c.later-number.ensures ∙ ap (λ x. later_of n.number x.number) q) i;
+            length = (c.later-length.ensures ∙ ap (λ x. later_of n.length x.length) q) i;
           };
-      made_2 = λ s h e. c.tick-a.ensures.1.0 s h e
-          ∙ ap (λ x. over x.reply c.args.buf.now) (any_lent (state s h) c.args.word c.args.buf.now c.requires.1.1);
+      made_2 = λ s h e. a.ensures.1.0 s h e
+          ∙ ap (λ x. over x.reply d) (any_lent (state s h) c.args.word d c.requires.in_bounds);
     }

@@ -8,7 +8,8 @@ use Rattle.session.specs.Kept.{keeping, Keeping}
 use Rattle.session.proofs.kept.Kept.push_all.Given as goal
 
 abbrev pub invariant-loop-i : goal.invariant-loop-i
-invariant-loop-i l = (l.i ≤ length l.cs) × Keeping l.initial.next (λ l. l.initial.i ≡ keeping (l ++ take l.i l.cs))
+invariant-loop-i l =
+    (l.i ≤ length l.cs) × Keeping l.initial.next (λ k. l.next ≡ keeping (k ++ take l.i l.cs))
 
 abbrev pub decreases-loop-i : goal.decreases-loop-i
 decreases-loop-i l = length l.cs - l.i

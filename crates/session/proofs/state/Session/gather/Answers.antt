@@ -9,8 +9,7 @@ use Rattle.session.proofs.GatheredLaws.{none_gathered, kept_gathered, sent_gathe
 use Rattle.session.proofs.state.Session.gather.Goals as goal
 
 pub bounds-bytes-0 : goal.bounds-bytes-0
-bounds-bytes-0 c =
-    omega (arith, c.before_mark-count.ensures, before_short is_mark c.args.bytes.now)
+bounds-bytes-0 c = omega (arith, c.before_mark-count.ensures, before_short is_mark c.args.bytes.now)
 
 pub slice_bounds-push_all-end : goal.slice_bounds-push_all-end
 slice_bounds-push_all-end c =
@@ -23,22 +22,33 @@ slice_bounds-gather-end c =
     (omega (arith, c.before_mark-count.ensures, before_short is_mark c.args.bytes.now)))
 
 pub gather-gathered-requires : goal.gather-gathered-requires
-gather-gathered-requires c =
-    reached c.args.self c.requires
+gather-gathered-requires c = reached c.args.self c.requires
 
 pub returns-then-keeps : goal.returns-then-keeps
 returns-then-keeps c =
-    gathered_told c.args.self c.args.bytes.now c.before_mark-count.result c.before_mark-count.ensures _ c.requires
-    (kept_gathered c.args.self c.args.bytes.now c.before_mark-count.result c.before_mark-count.ensures c.keeps.result c.push_all-more.result
-    c.keeps.ensures c.if-keeps.true c.if-count-gt0.true c.push_all-more.ensures)
+    let s = c.args.self in
+    let bs = c.args.bytes.now in
+    let n = c.before_mark-count in
+    let t = gathered_told s bs n.result n.ensures _ c.requires
+    (kept_gathered s bs n.result n.ensures c.keeps.result c.push_all-more.result
+    c.keeps.ensures c.if-keeps.true c.if-count-gt0.true c.push_all-more.ensures) in
+    record { runs = t.0; runs_2 = t.1.0; running = t.1.1 }
 
 pub returns-else-keeps : goal.returns-else-keeps
 returns-else-keeps c =
-    gathered_told c.args.self c.args.bytes.now c.before_mark-count.result c.before_mark-count.ensures _ c.requires
-    (sent_gathered c.args.self c.args.bytes.now c.before_mark-count.result c.before_mark-count.ensures c.keeps.result c.gather-gathered.result
-    c.keeps.ensures c.if-keeps.false c.if-count-gt0.true c.gather-gathered.ensures.0)
+    let s = c.args.self in
+    let bs = c.args.bytes.now in
+    let n = c.before_mark-count in
+    let t = gathered_told s bs n.result n.ensures _ c.requires
+    (sent_gathered s bs n.result n.ensures c.keeps.result c.gather-gathered.result
+    c.keeps.ensures c.if-keeps.false c.if-count-gt0.true c.gather-gathered.ensures.0) in
+    record { runs = t.0; runs_2 = t.1.0; running = t.1.1 }
 
 pub returns-else-count-gt0 : goal.returns-else-count-gt0
 returns-else-count-gt0 c =
-    gathered_told c.args.self c.args.bytes.now c.before_mark-count.result c.before_mark-count.ensures _ c.requires
-    (none_gathered c.args.self c.args.bytes.now c.before_mark-count.result c.before_mark-count.ensures (omega (arith, c.if-count-gt0.false)))
+    let s = c.args.self in
+    let bs = c.args.bytes.now in
+    let n = c.before_mark-count in
+    let t = gathered_told s bs n.result n.ensures _ c.requires
+    (none_gathered s bs n.result n.ensures (omega (arith, c.if-count-gt0.false))) in
+    record { runs = t.0; runs_2 = t.1.0; running = t.1.1 }

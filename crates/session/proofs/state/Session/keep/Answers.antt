@@ -4,8 +4,9 @@ use Rattle.session.proofs.state.Session.keep.Goals as goal
 
 pub returns : goal.returns
 returns c =
+    let m = c.args.self.controller in
     λ l e. λ i. record {
-      session = record { controller = c.args.self.controller; kept = c.push-kept.ensures.keeping l e i; place = Asking };
+      session = record { controller = m; kept = c.push-kept.ensures.keeping l e i; place = Asking };
       length = 0;
       number = 0;
     }
