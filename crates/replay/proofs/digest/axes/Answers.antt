@@ -33,8 +33,8 @@ loop-k-smaller c = omega arith
 pub loop-k-preserved : goal.loop-k-preserved
 loop-k-preserved c = (
   omega arith,
-  axes_next (travel_at c.args.travels) (place_at c.args.positions) c.args.h c.loop-k.k c.loop-k.digest c.mix-digest.result
-      c.loop-k.invariant.1 c.mix-digest.ensures,
+  axes_next (travel_at c.args.travels) (place_at c.args.positions) c.args.h c.loop-k.k c.loop-k.digest
+      c.mix-digest.result c.loop-k.invariant.1 c.mix-digest.ensures,
 )
 
 pub returns : goal.returns

@@ -14,9 +14,6 @@ loop-i-init c = (omega arith, refl)
 pub bounds-buf-i : goal.bounds-buf-i
 bounds-buf-i c = omega arith
 
-pub overflow_cast-buf : goal.overflow_cast-buf
-overflow_cast-buf c = omega (arith, c.shared_slice_known-in-loop-i-1.given c.loop-i.i)
-
 pub overflow_add-i : goal.overflow_add-i
 overflow_add-i c = omega arith
 

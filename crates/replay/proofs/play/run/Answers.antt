@@ -8,11 +8,13 @@ use Rattle.replay.proofs.play.run.Goals as goal
 
 pub loop-i-init : goal.loop-i-init
 loop-i-init c =
-    (omega arith, c.requires, refl, tick_none c.args.word c.args.buf.now c.args.was, lent_none c.args.word c.args.buf.now c.args.was)
+    let d = c.args.buf.now in
+    (omega arith, c.requires, refl, tick_none c.args.word d c.args.was, lent_none c.args.word d c.args.was)
 
 pub tick-next-requires : goal.tick-next-requires
 tick-next-requires c =
-    tick_reach c.args.word c.args.buf.now c.args.was c.loop-i.i c.loop-i.played c.loop-i.invariant.1 c.loop-i.invariant.3
+    let v = c.loop-i.invariant in
+    tick_reach c.args.word c.args.buf.now c.args.was c.loop-i.i c.loop-i.played v.1 v.3
 
 pub overflow_add-i : goal.overflow_add-i
 overflow_add-i c = omega arith
@@ -21,23 +23,28 @@ pub loop-i-smaller : goal.loop-i-smaller
 loop-i-smaller c = omega arith
 
 pub loop-i-preserved : goal.loop-i-preserved
-loop-i-preserved c = (
-  omega arith,
-  c.loop-i.invariant.1,
-  c.tick-next.auto.buf ∙ c.loop-i.invariant.2,
-  tick_next c.args.word c.args.buf.now c.args.was c.loop-i.i c.loop-i.played c.tick-next.result c.loop-i.buf c.loop-i.invariant.2 c.loop-i.invariant.3
-      c.tick-next.ensures.plays,
-  lent_next c.args.word c.args.buf.now c.args.was c.loop-i.i c.loop-i.played c.loop-i.buf _ c.loop-i.invariant.2 c.loop-i.invariant.3 c.loop-i.invariant.4
-      c.tick-next.ensures.lends,
-)
+loop-i-preserved c =
+    let l = c.loop-i in
+    let v = l.invariant in
+    let w = c.args.word in
+    let d = c.args.buf.now in
+    let t = c.tick-next in (
+      omega arith,
+      v.1,
+      t.auto.buf ∙ v.2,
+      tick_next w d c.args.was l.i l.played t.result l.buf v.2 v.3 t.ensures.plays,
+      lent_next w d c.args.was l.i l.played l.buf _ v.2 v.3 v.4 t.ensures.lends,
+    )
 
 pub shape_of-buf : goal.shape_of-buf
 shape_of-buf c = c.loop-i.invariant.2
 
 pub returns : goal.returns
 returns c =
-    let n : c.loop-i.i ≡ c.args.count = omega arith in
-    record {
-      plays = λ w h e. c.loop-i.invariant.3 w h e ∙ ap (λ k. held_seen w (ticks w k c.args.word c.args.buf.now (seen h c.args.was.digest))) n;
-      lends = λ w h e. c.loop-i.invariant.4 w h e ∙ ap (λ k. lent_after w k c.args.word c.args.buf.now (seen h c.args.was.digest)) n;
+    let v = c.loop-i.invariant in
+    let d = c.args.buf.now in
+    let g = c.args.was.digest in
+    let n : c.loop-i.i ≡ c.args.count = omega arith in record {
+      plays = λ w h e. v.3 w h e ∙ ap (λ k. held_seen w (ticks w k c.args.word d (seen h g))) n;
+      lends = λ w h e. v.4 w h e ∙ ap (λ k. lent_after w k c.args.word d (seen h g)) n;
     }
