@@ -12,9 +12,10 @@ use Rattle.screen.proofs.answer.Goals as goal
 
 pub returns : goal.returns
 returns c =
-    record {
-      made = λ w h q. c.shown_for.ensures.made w h q ∙ ap (λ (a : Asked). holding (shown_for (state w h) a)) c.parse_trial-asked.ensures;
-      made_2 = λ w h q. subst (λ (a : Asked). length (shown_for (state w h) a) ≤ 250) c.parse_trial-asked.ensures (c.shown_for.ensures.made_2 w h q);
+    let e = c.parse_trial-asked.ensures in
+    let s = c.shown_for.ensures in record {
+      made = λ w h q. s.made w h q ∙ ap (λ (a : Asked). holding (shown_for (state w h) a)) e;
+      made_2 = λ w h q. subst (λ (a : Asked). length (shown_for (state w h) a) ≤ 250) e (s.made_2 w h q);
       shares = shares;
       times = times;
       forms = forms;

@@ -12,7 +12,7 @@ returns-in-Malformed c =
 
 pub returns-in-Trial : goal.returns-in-Trial
 returns-in-Trial c =
-    record {
-      made = λ w h q. trial_shown (state w h) c.in-Trial.is (c.temixohuel_trial-trial.ensures.made w h q) c.screen.ensures.value;
-      made_2 = λ w h q. trial_whole (state w h) c.in-Trial.is (c.temixohuel_trial-trial.ensures.made w h q) c.screen.ensures.whole;
+    let t = c.temixohuel_trial-trial.ensures.made in record {
+      made = λ w h q. trial_shown (state w h) c.in-Trial.is (t w h q) c.screen.ensures.value;
+      made_2 = λ w h q. trial_whole (state w h) c.in-Trial.is (t w h q) c.screen.ensures.whole;
     }

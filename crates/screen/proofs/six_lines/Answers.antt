@@ -9,5 +9,6 @@ returns c =
     record {
       value = joined c.args.text (master_line c.args.master c.args.trial.end c.args.ticks) (wine_lines 5 c.args.trial)
           c.master_line-first.ensures.value c.wine_lines.ensures.value;
-      ticks_len_bound = six_length c.args.trial c.args.master c.args.ticks c.master_line-first.ensures.ticks_len_bound c.wine_lines.ensures.trial_len_bound;
+      ticks_len_bound = six_length c.args.trial c.args.master c.args.ticks
+          c.master_line-first.ensures.ticks_len_bound c.wine_lines.ensures.trial_len_bound;
     }

@@ -24,7 +24,8 @@ unfolding pulses_in
 loop-k-preserved c = (
   omega (arith, c.loop-k-test.true),
   omega (arith, c.loop-k.invariant.1),
-  (λ i. c.loop-k.invariant.2 i + c.pulses.ensures i) ∙ ap (λ (n : ℕ). pulses_in n c.args.trial) (sym (add-one c.loop-k.k)),
+  (λ i. c.loop-k.invariant.2 i + c.pulses.ensures i)
+      ∙ ap (λ (n : ℕ). pulses_in n c.args.trial) (sym (add-one c.loop-k.k)),
 )
 
 pub returns : goal.returns
