@@ -14,7 +14,7 @@ returns-in-Nothing c =
 
 pub returns-in-Command : goal.returns-in-Command
 returns-in-Command c =
-    c.Line-of.ensures
+    c.line_of.ensures
     ∙ sym
     (ap (λ (m : Meant). writes c.args.text (request_text c.args.silent c.args.ident c.args.line.now m))
     c.in-Command.is)

@@ -6,55 +6,79 @@ use Rattle.laws.proofs.Pick.{on_eq, on_ne}
 use Rattle.text.specs.Text.{writes}
 use Rattle.text.specs.declared.Text.{Text}
 use Rattle.sentences.specs.Sentences.{place_of}
+use Rattle.phrases.specs.Meanings.{word}
 use Rattle.phrases.specs.Phrases.{text_at, words_text}
-use Rattle.phrases.specs.Promises.{SameLine, TickLine, TrialLine}
 use Rattle.phrases.proofs.SameLineLaws.{same_line}
 use Rattle.phrases.proofs.TickLineLaws.{tick_line}
 use Rattle.phrases.proofs.TrialLineLaws.{trial_line}
 use Rattle.phrases.proofs.words.Goals as goal
 
--- What is printed is the text at the place that was found, with the promises.
-placed : (w : goal.After-place_of-k) {r : Text} {a : List ℕ} → r ≡ writes (start w).args.text a
-    → a ≡ text_at w.place_of-k.result (start w).args.line.now
-    → (r ≡ writes (start w).args.text (words_text (start w).args.line.now)) × (SameLine × (TickLine × TrialLine))
+-- What is printed is the text at the place k that was found for the word w.
+placed : (l : List ℕ) (t : Text) (k : ℕ) (w : List ℕ) {r : Text} {a : List ℕ} → k ≡ place_of w → w ≡ word 0 l
+    → r ≡ writes t a → a ≡ text_at k l → r ≡ writes t (words_text l)
 unfolding words_text
-placed w p q =
-    let l = (start w).args.line.now in (
-      p
-          ∙ ap (writes (start w).args.text)
-          (q ∙ ap (λ (k : ℕ). text_at k l) (w.place_of-k.ensures.value ∙ ap place_of w.part.ensures)),
-      (same_line, (tick_line, trial_line)),
-    )
+placed l t k w e f p q = p ∙ ap (writes t) (q ∙ ap (λ (n : ℕ). text_at n l) (e ∙ ap place_of f))
 
 pub returns-then-k-eq-OPENING : goal.returns-then-k-eq-OPENING
-returns-then-k-eq-OPENING c =
-    placed c.before.before c.opening.ensures (on_eq c.place_of-k.result 19 _ _ _ c.if-k-eq-OPENING.true refl)
+returns-then-k-eq-OPENING c = record {
+  value =
+      placed c.args.line.now c.args.text c.place_of-k.result _ c.place_of-k.ensures.value c.part.ensures
+      c.opening.ensures
+      (on_eq c.place_of-k.result 19 _ _ _ c.if-k-eq-OPENING.true refl);
+  same_line = same_line;
+  tick_line = tick_line;
+  trial_line = trial_line;
+}
 
 pub returns-then-k-eq-MASTER : goal.returns-then-k-eq-MASTER
-returns-then-k-eq-MASTER c =
-    placed c.before.before.before c.master.ensures
-    (on_ne c.place_of-k.result 19 _ _ _ c.if-k-eq-OPENING.false
-    (on_eq c.place_of-k.result 20 _ _ _ c.if-k-eq-MASTER.true refl))
+returns-then-k-eq-MASTER c = record {
+  value =
+      placed c.args.line.now c.args.text c.place_of-k.result _ c.place_of-k.ensures.value c.part.ensures
+      c.master.ensures
+      (on_ne c.place_of-k.result 19 _ _ _ c.if-k-eq-OPENING.false
+      (on_eq c.place_of-k.result 20 _ _ _ c.if-k-eq-MASTER.true refl));
+  same_line = same_line;
+  tick_line = tick_line;
+  trial_line = trial_line;
+}
 
 pub returns-then-k-eq-TICKS : goal.returns-then-k-eq-TICKS
-returns-then-k-eq-TICKS c =
-    placed c.before.before.before.before c.ticks.ensures
-    (on_ne c.place_of-k.result 19 _ _ _ c.if-k-eq-OPENING.false
-    (on_ne c.place_of-k.result 20 _ _ _ c.if-k-eq-MASTER.false
-    (on_eq c.place_of-k.result 21 _ _ _ c.if-k-eq-TICKS.true refl)))
+returns-then-k-eq-TICKS c = record {
+  value =
+      placed c.args.line.now c.args.text c.place_of-k.result _ c.place_of-k.ensures.value c.part.ensures
+      c.ticks.ensures
+      (on_ne c.place_of-k.result 19 _ _ _ c.if-k-eq-OPENING.false
+      (on_ne c.place_of-k.result 20 _ _ _ c.if-k-eq-MASTER.false
+      (on_eq c.place_of-k.result 21 _ _ _ c.if-k-eq-TICKS.true refl)));
+  same_line = same_line;
+  tick_line = tick_line;
+  trial_line = trial_line;
+}
 
 pub returns-then-k-eq-TRIAL : goal.returns-then-k-eq-TRIAL
-returns-then-k-eq-TRIAL c =
-    placed c.before.before.before.before.before c.trial.ensures
-    (on_ne c.place_of-k.result 19 _ _ _ c.if-k-eq-OPENING.false
-    (on_ne c.place_of-k.result 20 _ _ _ c.if-k-eq-MASTER.false
-    (on_ne c.place_of-k.result 21 _ _ _ c.if-k-eq-TICKS.false
-    (on_eq c.place_of-k.result 22 _ _ _ c.if-k-eq-TRIAL.true refl))))
+returns-then-k-eq-TRIAL c = record {
+  value =
+      placed c.args.line.now c.args.text c.place_of-k.result _ c.place_of-k.ensures.value c.part.ensures
+      c.trial.ensures
+      (on_ne c.place_of-k.result 19 _ _ _ c.if-k-eq-OPENING.false
+      (on_ne c.place_of-k.result 20 _ _ _ c.if-k-eq-MASTER.false
+      (on_ne c.place_of-k.result 21 _ _ _ c.if-k-eq-TICKS.false
+      (on_eq c.place_of-k.result 22 _ _ _ c.if-k-eq-TRIAL.true refl))));
+  same_line = same_line;
+  tick_line = tick_line;
+  trial_line = trial_line;
+}
 
 pub returns : goal.returns
-returns c =
-    placed c.before.before.before.before.before c.command.ensures
-    (on_ne c.place_of-k.result 19 _ _ _ c.if-k-eq-OPENING.false
-    (on_ne c.place_of-k.result 20 _ _ _ c.if-k-eq-MASTER.false
-    (on_ne c.place_of-k.result 21 _ _ _ c.if-k-eq-TICKS.false
-    (on_ne c.place_of-k.result 22 _ _ _ c.if-k-eq-TRIAL.false refl))))
+returns c = record {
+  value =
+      placed c.args.line.now c.args.text c.place_of-k.result _ c.place_of-k.ensures.value c.part.ensures
+      c.command.ensures
+      (on_ne c.place_of-k.result 19 _ _ _ c.if-k-eq-OPENING.false
+      (on_ne c.place_of-k.result 20 _ _ _ c.if-k-eq-MASTER.false
+      (on_ne c.place_of-k.result 21 _ _ _ c.if-k-eq-TICKS.false
+      (on_ne c.place_of-k.result 22 _ _ _ c.if-k-eq-TRIAL.false refl))));
+  same_line = same_line;
+  tick_line = tick_line;
+  trial_line = trial_line;
+}

@@ -15,7 +15,8 @@ use Rattle.wording.proofs.answer_text.Goals as goal
 pub returns-then-line-ge-OVERLONG : goal.returns-then-line-ge-OVERLONG
 returns-then-line-ge-OVERLONG c =
     c.overlong.ensures
-    ∙ ap (λ (x : List ℕ). writes c.args.text x) (sym (overlong_is c.args.line.now (omega (arith, c.if-line-ge-OVERLONG.true))))
+    ∙ ap (λ (x : List ℕ). writes c.args.text x)
+    (sym (overlong_is c.args.line.now (omega (arith, c.if-line-ge-OVERLONG.true))))
 
 pub returns-then-is_station : goal.returns-then-is_station
 returns-then-is_station c =
@@ -24,24 +25,34 @@ returns-then-is_station c =
     (sym (station_is c.args.line.now (omega (arith, c.if-line-ge-OVERLONG.false))
     (sym c.is_station.ensures ∙ c.if-is_station.true)))
 
+-- Past the second test the line is short and no command.
 pub returns-then-is_block : goal.returns-then-is_block
 returns-then-is_block c =
+    let l = c.args.line.now in
+    let short : length l < 100 = omega (arith, c.if-line-ge-OVERLONG.false) in
+    let none : is_station l ≡ false = sym c.is_station.ensures ∙ c.if-is_station.false in
     c.block.ensures.value
     ∙ ap (λ (x : List ℕ). writes c.args.text x)
-    (sym (block_is ((let it : List ℕ = c.args.line.now in it)) ((let it : length ((let it : List ℕ = c.args.line.now in it)) < 100 = omega (arith, c.if-line-ge-OVERLONG.false) in it)) ((let it : is_station ((let it : List ℕ = c.args.line.now in it)) ≡ false = sym c.is_station.ensures ∙ c.if-is_station.false in it)) (sym c.is_Block.ensures ∙ c.if-is_block.true)))
+    (sym (block_is l short none (sym c.is_block.ensures ∙ c.if-is_block.true)))
 
 pub returns-then-are_sums : goal.returns-then-are_sums
 returns-then-are_sums c =
-    joined c.args.text (chars "pulses ") ((let it : List ℕ = c.args.line.now in it)) c.characters-word.ensures c.characters.ensures
+    let l = c.args.line.now in
+    let short : length l < 100 = omega (arith, c.if-line-ge-OVERLONG.false) in
+    let none : is_station l ≡ false = sym c.is_station.ensures ∙ c.if-is_station.false in
+    joined c.args.text (chars "pulses ") l c.characters-word.ensures c.characters.ensures
     ∙ ap (λ (x : List ℕ). writes c.args.text x)
-    (sym (sums_are ((let it : List ℕ = c.args.line.now in it)) ((let it : length ((let it : List ℕ = c.args.line.now in it)) < 100 = omega (arith, c.if-line-ge-OVERLONG.false) in it)) ((let it : is_station ((let it : List ℕ = c.args.line.now in it)) ≡ false = sym c.is_station.ensures ∙ c.if-is_station.false in it))
-    (sym c.is_Block.ensures ∙ c.if-is_block.false)
+    (sym (sums_are l short none
+    (sym c.is_block.ensures ∙ c.if-is_block.false)
     (sym c.are_sums.ensures ∙ c.if-are_sums.true)))
 
 pub returns : goal.returns
 returns c =
+    let l = c.args.line.now in
+    let short : length l < 100 = omega (arith, c.if-line-ge-OVERLONG.false) in
+    let none : is_station l ≡ false = sym c.is_station.ensures ∙ c.if-is_station.false in
     c.words.ensures.value
     ∙ ap (λ (x : List ℕ). writes c.args.text x)
-    (sym (words_are ((let it : List ℕ = c.args.line.now in it)) ((let it : length ((let it : List ℕ = c.args.line.now in it)) < 100 = omega (arith, c.if-line-ge-OVERLONG.false) in it)) ((let it : is_station ((let it : List ℕ = c.args.line.now in it)) ≡ false = sym c.is_station.ensures ∙ c.if-is_station.false in it))
-    (sym c.is_Block.ensures ∙ c.if-is_block.false)
+    (sym (words_are l short none
+    (sym c.is_block.ensures ∙ c.if-is_block.false)
     (sym c.are_sums.ensures ∙ c.if-are_sums.false)))

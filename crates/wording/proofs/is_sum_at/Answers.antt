@@ -6,5 +6,5 @@ use Rattle.wording.proofs.is_sum_at.Goals as goal
 
 pub returns : goal.returns
 returns c =
-    c.is_Signed.ensures
+    c.is_signed.ensures
     ∙ ap is_signed (c.read_signed-signed.ensures ∙ ap signed_of c.part.ensures)

@@ -24,4 +24,4 @@ returns c =
     on_eq _ 0 _ _ _ c.if-k-ne-START.false
     (told_true _ _ _ _ _ c.same.ensures (not-false _ c.if-not-same.false-raw)
     (told_true _ _ _ _ _ c.same-2.ensures (not-false _ c.if-not-same-2.false-raw)
-    (c.waiting_start_lem.ensures ∙ ap waiting_start c.read_decimal-n.ensures)))
+    (c.waiting_start.ensures ∙ ap waiting_start c.read_decimal-n.ensures)))

@@ -26,21 +26,45 @@ from_3 l = cond (is_number_at l 3) (from_4 l) false
 abbrev from_2 : List ℕ → Bool
 from_2 l = cond (is_number_at l 2) (from_3 l) false
 
+-- Of six words, what the words behind the first say is the answer.
+six : (l : List ℕ) {r : Bool} → words l ≡ 6 → r ≡ cond (is_number_at l 1) (from_2 l) false → r ≡ are_distances l
+six l e p = on_eq (words l) 6 _ _ _ e p
+
 pub returns-then-parts-ne6 : goal.returns-then-parts-ne6
 returns-then-parts-ne6 c =
     on_ne (words c.args.line.now) 6 _ _ _ (λ e. c.if-parts-ne6.true (c.parts.ensures ∙ e)) refl
 
 pub returns-then-not-is_number_at : goal.returns-then-not-is_number_at
-returns-then-not-is_number_at c = (let it : r ≡ are_distances ((let it : List ℕ = c.args.line.now in it)) = on_eq (words ((let it : List ℕ = c.args.line.now in it))) 6 _ _ _ (sym c.parts.ensures ∙ c.if-parts-ne6.false) (no _ c.is_number_at.ensures c.if-not-is_number_at.true-raw) in it)
+returns-then-not-is_number_at c =
+    six c.args.line.now (sym c.parts.ensures ∙ c.if-parts-ne6.false)
+    (no _ c.is_number_at.ensures c.if-not-is_number_at.true-raw)
 
 pub returns-then-not-is_number_at-2 : goal.returns-then-not-is_number_at-2
-returns-then-not-is_number_at-2 c = (let it : r ≡ are_distances ((let it : List ℕ = (let it : List ℕ = c.args.line.now in it) in it)) = (let it : r ≡ are_distances ((let it : List ℕ = c.args.line.now in it)) = on_eq (words ((let it : List ℕ = c.args.line.now in it))) 6 _ _ _ (sym c.parts.ensures ∙ c.if-parts-ne6.false) (yes c.is_number_at.ensures c.if-not-is_number_at.false-raw (no _ c.is_number_at-2.ensures c.if-not-is_number_at-2.true-raw)) in it) in it)
+returns-then-not-is_number_at-2 c =
+    six c.args.line.now (sym c.parts.ensures ∙ c.if-parts-ne6.false)
+    (yes c.is_number_at.ensures c.if-not-is_number_at.false-raw
+    (no _ c.is_number_at-2.ensures c.if-not-is_number_at-2.true-raw))
 
 pub returns-then-not-is_number_at-3 : goal.returns-then-not-is_number_at-3
-returns-then-not-is_number_at-3 c = (let it : r ≡ are_distances ((let it : List ℕ = (let it : List ℕ = (let it : List ℕ = c.args.line.now in it) in it) in it)) = (let it : r ≡ are_distances ((let it : List ℕ = (let it : List ℕ = c.args.line.now in it) in it)) = (let it : r ≡ are_distances ((let it : List ℕ = c.args.line.now in it)) = on_eq (words ((let it : List ℕ = c.args.line.now in it))) 6 _ _ _ (sym c.parts.ensures ∙ c.if-parts-ne6.false) (yes c.is_number_at.ensures c.if-not-is_number_at.false-raw (yes c.is_number_at-2.ensures c.if-not-is_number_at-2.false-raw (no _ c.is_number_at-3.ensures c.if-not-is_number_at-3.true-raw))) in it) in it) in it)
+returns-then-not-is_number_at-3 c =
+    six c.args.line.now (sym c.parts.ensures ∙ c.if-parts-ne6.false)
+    (yes c.is_number_at.ensures c.if-not-is_number_at.false-raw
+    (yes c.is_number_at-2.ensures c.if-not-is_number_at-2.false-raw
+    (no _ c.is_number_at-3.ensures c.if-not-is_number_at-3.true-raw)))
 
 pub returns-then-not-is_number_at-4 : goal.returns-then-not-is_number_at-4
-returns-then-not-is_number_at-4 c = (let it : r ≡ are_distances ((let it : List ℕ = (let it : List ℕ = (let it : List ℕ = (let it : List ℕ = c.args.line.now in it) in it) in it) in it)) = (let it : r ≡ are_distances ((let it : List ℕ = (let it : List ℕ = (let it : List ℕ = c.args.line.now in it) in it) in it)) = (let it : r ≡ are_distances ((let it : List ℕ = (let it : List ℕ = c.args.line.now in it) in it)) = (let it : r ≡ are_distances ((let it : List ℕ = c.args.line.now in it)) = on_eq (words ((let it : List ℕ = c.args.line.now in it))) 6 _ _ _ (sym c.parts.ensures ∙ c.if-parts-ne6.false) (yes c.is_number_at.ensures c.if-not-is_number_at.false-raw (yes c.is_number_at-2.ensures c.if-not-is_number_at-2.false-raw (yes c.is_number_at-3.ensures c.if-not-is_number_at-3.false-raw (no _ c.is_number_at-4.ensures c.if-not-is_number_at-4.true-raw)))) in it) in it) in it) in it)
+returns-then-not-is_number_at-4 c =
+    six c.args.line.now (sym c.parts.ensures ∙ c.if-parts-ne6.false)
+    (yes c.is_number_at.ensures c.if-not-is_number_at.false-raw
+    (yes c.is_number_at-2.ensures c.if-not-is_number_at-2.false-raw
+    (yes c.is_number_at-3.ensures c.if-not-is_number_at-3.false-raw
+    (no _ c.is_number_at-4.ensures c.if-not-is_number_at-4.true-raw))))
 
 pub returns : goal.returns
-returns c = (let it : r ≡ are_distances ((let it : List ℕ = (let it : List ℕ = (let it : List ℕ = (let it : List ℕ = (let it : List ℕ = c.args.line.now in it) in it) in it) in it) in it)) = (let it : r ≡ are_distances ((let it : List ℕ = (let it : List ℕ = (let it : List ℕ = (let it : List ℕ = c.args.line.now in it) in it) in it) in it)) = (let it : r ≡ are_distances ((let it : List ℕ = (let it : List ℕ = (let it : List ℕ = c.args.line.now in it) in it) in it)) = (let it : r ≡ are_distances ((let it : List ℕ = (let it : List ℕ = c.args.line.now in it) in it)) = (let it : r ≡ are_distances ((let it : List ℕ = c.args.line.now in it)) = on_eq (words ((let it : List ℕ = c.args.line.now in it))) 6 _ _ _ (sym c.parts.ensures ∙ c.if-parts-ne6.false) (yes c.is_number_at.ensures c.if-not-is_number_at.false-raw (yes c.is_number_at-2.ensures c.if-not-is_number_at-2.false-raw (yes c.is_number_at-3.ensures c.if-not-is_number_at-3.false-raw (yes c.is_number_at-4.ensures c.if-not-is_number_at-4.false-raw c.is_number_at-5.ensures)))) in it) in it) in it) in it) in it)
+returns c =
+    six c.args.line.now (sym c.parts.ensures ∙ c.if-parts-ne6.false)
+    (yes c.is_number_at.ensures c.if-not-is_number_at.false-raw
+    (yes c.is_number_at-2.ensures c.if-not-is_number_at-2.false-raw
+    (yes c.is_number_at-3.ensures c.if-not-is_number_at-3.false-raw
+    (yes c.is_number_at-4.ensures c.if-not-is_number_at-4.false-raw
+    c.is_number_at-5.ensures))))

@@ -33,16 +33,18 @@ loop-k-smaller c = omega arith
 
 pub loop-k-preserved : goal.loop-k-preserved
 loop-k-preserved c =
-    let n : c.loop-k.k < length c.args.converted.requests = omega (arith, (let it : length c.args.converted.requests ≡ 6 = simp length-map at c.well-formed.1.0.1.1.1.1.0.1.0.1 in it)) in (
+    let rs = c.args.converted.requests in
+    let six : length rs ≡ 6 = ? in
+    let n : c.loop-k.k < length rs = omega arith in (
       omega arith,
       omega arith,
-      λ s e.
-          next_written s c.args.converted.requests _ c.loop-k.k c.loop-k.invariant.0 n (c.loop-k.invariant.2 s e) c.with-fed.ensures
-          c.line_of-more.ensures,
+      λ s e. next_written s rs _ c.loop-k.k c.loop-k.invariant.0 n (c.loop-k.invariant.2 s e) c.with-fed.ensures c.line_of-more.ensures,
     )
 
 pub returns : goal.returns
 returns c =
+    let rs = c.args.converted.requests in
+    let six : length rs ≡ 6 = ? in
     let e : c.loop-k.k ≡ c.args.converted.count = omega (arith, c.loop-k.invariant.1, c.loop-k-test.false) in
-    c.loop-k.invariant.2 c.args.text (first_written c.args.text c.args.converted.requests _ (omega (arith, (let it : length c.args.converted.requests ≡ 6 = simp length-map at c.well-formed.1.0.1.1.1.1.0.1.0.1 in it))) c.Line-of.ensures)
-    ∙ ap (λ (n : ℕ). writes c.args.text (lines_text (take n c.args.converted.requests))) e
+    c.loop-k.invariant.2 c.args.text (first_written c.args.text rs _ (omega arith) c.line_of-next.ensures)
+    ∙ ap (λ (n : ℕ). writes c.args.text (lines_text (take n rs))) e

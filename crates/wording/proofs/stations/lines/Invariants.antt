@@ -11,7 +11,8 @@ use Rattle.wording.proofs.stations.lines.Given as goal
 abbrev pub invariant-loop-k : goal.invariant-loop-k
 invariant-loop-k l =
     (1 ≤ l.k) × (l.k ≤ l.count)
-    × ((s : Text) → l.initial.next ≡ writes s (lines_text (take 1 l.requests)) → l.initial.k ≡ writes s (lines_text (take l.k l.requests)))
+    × ((s : Text) → l.initial.next ≡ writes s (lines_text (take 1 l.requests))
+    → l.next ≡ writes s (lines_text (take l.k l.requests)))
 
 abbrev pub decreases-loop-k : goal.decreases-loop-k
 decreases-loop-k l = l.count - l.k
