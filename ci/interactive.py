@@ -10,7 +10,6 @@ input that is not ready. Exit 1, naming what was to come and what came.
 import os
 import re
 import select
-import signal
 import subprocess
 import sys
 import time
@@ -139,11 +138,12 @@ def stops(program, line, reply):
     """Three ways to stop before the end of the input, which stays open."""
     stopped = f"{os.path.basename(program)}: stopped, input or output failed\n".encode()
     for case, ignored in [("output closed", False), ("output closed, SIGPIPE ignored", True)]:
+        # either way the same: a program of this toolchain ignores SIGPIPE itself, as Rust's do
         running = Running(program, stderr=PIPE, restore_signals=not ignored)
         running.process.stdout.close()
         running.process.stdout = None
         running.give(line)
-        running.over(case, *((0, stopped) if ignored else (-signal.SIGPIPE, b"")))
+        running.over(case, 0, stopped)
     end, other = os.pipe()
     os.set_blocking(end, False)
     os.write(other, line + line[:2])

@@ -1,15 +1,16 @@
 #!/usr/bin/env python3
-"""Holds include/temixohuel.h and include/temixohuel.rs to the libraries for firmware: ci/layout.py, from the root
+"""Holds include/temixohuel.h and include/temixohuel.rs to the libraries for firmware: ci/layout.py [mir], from the root
 
-Sizes come from the MIR that the toolchain makes of their crates, from the sources and with no proof; what crosses is
-#[repr(C)], so C's rules lay it out. Names, signs and signatures come from the sources. All of it is written to
-target/layout/ as assertions, which gcc and rustc check. Exit 1, naming what differs.
+What crosses is #[repr(C)], so C's rules lay it out: sizes, names, signs and signatures come from the sources of the
+crates. All of it is written to target/layout/ as assertions, which gcc and rustc check. With the word mir all of these
+types are held to the MIR that was proved, too, as `rt ci` left it (ci/mir.py). Exit 1, naming what differs.
 """
-import platform
 import re
 import subprocess
 import sys
 from pathlib import Path
+
+import mir
 
 # What crosses: its crate and name, its name in C, its name in Rust.
 CROSSING = [
@@ -25,84 +26,85 @@ CROSSING = [
     (("journal", "EntryAt"), "temixohuel_read_answer", "ReadAnswer"),
 ]
 OPAQUE = ("controller", "Controller")
-LIBRARIES = ("firmware", "trial")  # one archive each
-WORDS = re.compile(r'"[^"]*"|[()]|[^\s()]+')
+LIBRARIES = ("firmware", "trial_c")  # one archive each
+STRUCT = re.compile(r"((?:^#\[[^\n]*\n)*)^pub(?:\(crate\))? struct (\w+)(?: \{\n(.*?)^\}|\(pub (\w+)\);)", re.M | re.S)
+FIELD = re.compile(r"^ +(?:pub(?:\(crate\))? )?(\w+): ([^,]+),$", re.M)
+SIZES = {f"{sign}{bits}": bits // 8 for sign in "iu" for bits in (8, 16, 32, 64)} | {"usize": 8, "bool": 1}
 C_NUMBERS = {f"{sign}{n}": f"{'u' * (sign == 'u')}int{n}_t" for sign in "iu" for n in (8, 16, 32, 64)}
 C_NUMBERS |= {"usize": "size_t", "bool": "_Bool", "*mut u8": "uint8_t *", "*const u8": "const uint8_t *"}
 SLICES = {"&mut [u8]": ["*mut u8", "usize"], "&[u8]": ["*const u8", "usize"]}
 HEADER, BINDING, ROOM = Path("include/temixohuel.h"), Path("include/temixohuel.rs"), Path("target/layout")
 
 
-def mir():
-    """The MIR of the libraries' crates and of those they stand on."""
-    guide = Path(subprocess.run(["rt", "doc"], check=True, capture_output=True, text=True).stdout.strip())
-    kit = guide.parent.parent
-    lines = [line for line in Path("crates.txt").read_text().splitlines() if line.split(":")[0] in LIBRARIES]
-    libraries = {name: f"crates/{name}/src/lib.rt" for line in lines for name in line.replace(":", "").split()}
-    libraries["std"] = kit / "libs/std/src/lib.rt"
-    ROOM.mkdir(parents=True, exist_ok=True)
-    (ROOM / "main.rt").write_text("fn main() {}\n")
-    words = [word for name, path in libraries.items() for word in ("--lib", f"{name}={path}")]
-    printer = kit / "on" / platform.machine() / "bin/rattle-print-mir"
-    said = subprocess.run([printer, ROOM / "main.rt", "--crate-name", "layout", *words], capture_output=True, text=True)
-    return said.stdout or sys.exit(f"layout: no MIR of the libraries\n{said.stderr}")
+def source(crate):
+    """The sources of a crate without their comments."""
+    texts = (path.read_text(encoding="utf-8") for path in sorted(Path(f"crates/{crate}/src").rglob("*.rt")))
+    return "".join(re.sub(r"//.*", "", text) for text in texts)
 
 
-def term(words):
-    """One term of the MIR as nested lists."""
-    word = next(words)
-    if word != "(":
-        return word
-    parts = []
-    while (part := term(words)) != ")":
-        parts.append(part)
-    return parts
+def declared():
+    """Names and types of the fields of each #[repr(C)] struct that the libraries or a crate below have; its crate."""
+    found, owners = {}, {}
+    for crate in (*mir.below(*LIBRARIES), *LIBRARIES):
+        for attributes, name, body, number in STRUCT.findall(source(crate)):
+            if "#[repr(C)]" in attributes:
+                if name in found:
+                    sys.exit(f"layout: two structs {name}")
+                found[name], owners[name] = [("0", number)] if number else FIELD.findall(body), crate
+                if not number and len(found[name]) != len(re.findall(r"^ +\S.*$", body, re.M)):
+                    sys.exit(f"layout: not all of {name} of crates/{crate} is a field on a line of its own")
+    return found, owners
 
 
-def declared(text):
-    """The types of the fields of each struct."""
-    types = {}
-    for found in re.finditer(r'\(pair "([\w:]+)" \(fields ', text):
-        if found.group(1) not in types:
-            fields, rest = [], term(word.group() for word in WORDS.finditer(text, found.end()))
-            while rest != "tnil":
-                fields.append(rest[1])
-                rest = rest[2]
-            types[found.group(1)] = fields
-    return types
+TYPES, OWNERS = declared()
 
 
-def laid_out(types, kind):
+def laid_out(kind):
     """Size and alignment of a type, and the offsets of a struct's fields."""
-    if kind == "tyBool":
-        return 1, 1, []
-    if kind[0] == "tyInt":
-        return int(kind[1]) // 8, int(kind[1]) // 8, []
-    if kind[0] == "tyArray":
-        size, align, _ = laid_out(types, kind[1])
-        return size * int(kind[2][1]), align, []
-    name = kind[1][1].strip('"') if kind[0] == "tyNamed" else None
-    if name not in types:
-        sys.exit(f"layout: what crosses holds {kind}, which is no number, array or struct")
+    if kind in SIZES:
+        return SIZES[kind], SIZES[kind], []
+    array = re.fullmatch(r"\[(\w+); (\d+)\]", kind)
+    if array:
+        size, align, _ = laid_out(array.group(1))
+        return size * int(array.group(2)), align, []
+    if kind not in TYPES:
+        sys.exit(f"layout: what crosses holds {kind}, which is no number, array or #[repr(C)] struct")
     at, widest, offsets = 0, 1, []
-    for field in types[name]:
-        size, align, _ = laid_out(types, field)
+    for _, field in TYPES[kind]:
+        size, align, _ = laid_out(field)
         at = -(-at // align) * align
         offsets.append(at)
         at, widest = at + size, max(widest, align)
     return -(-at // widest) * widest, widest, offsets
 
 
-def source(crate):
-    return "".join(path.read_text(encoding="utf-8") for path in sorted(Path(f"crates/{crate}/src").rglob("*.rt")))
-
-
 def fields_of(rattle):
     """Names and types of a struct's fields, as the source has them; one-number structs are their number."""
-    crate, name = rattle
-    body = re.search(r"struct %s \{(.*?)\n\}" % name, source(crate), re.S).group(1)
-    travel = re.search(r"struct Travel\(pub (\w+)\)", source("reply")).group(1)
-    return [(field, kind.replace("Travel", travel)) for field, kind in re.findall(r"(\w+): ([^,]+),", body)]
+    return [(field, kind.replace("Travel", TYPES["Travel"][0][1])) for field, kind in TYPES[rattle[1]]]
+
+
+def of_mir(kind):
+    """A type of the MIR as the source writes it, but for signs."""
+    if kind == "Bool":
+        return "bool"
+    if "Int" in kind:
+        return f"u{kind['Int']}"
+    if "Array" in kind:
+        return f"[{of_mir(kind['Array'][0])}; {kind['Array'][1].get('Lit')}]"
+    return kind["Named"][0]["name"].split("::")[-1] if "Named" in kind else str(kind)
+
+
+def otherwise():
+    """Where the MIR has other fields than the source."""
+    shapes = {(path.split("::")[0], path.split("::")[-1]): fields
+              for path, fields in mir.shapes(mir.functions(mir.below(*LIBRARIES))).items()}
+    for name, fields in TYPES.items():
+        has = [re.sub(r"\bi(?=\d)", "u", kind).replace("usize", "u64") for _, kind in fields]
+        crate = OWNERS[name]
+        if crate not in LIBRARIES:
+            told = [of_mir(kind) for kind in shapes[crate, name]] if (crate, name) in shapes else "nothing"
+            if has != told:
+                yield f"layout: {crate}::{name}: the MIR has {told}, the source {has}"
 
 
 def functions():
@@ -175,16 +177,11 @@ def undeclared():
 
 
 def main():
-    types = declared(mir())
-    layouts = []
-    for (crate, name), _, _ in CROSSING:
-        path = next(path for path in types if path.split("::")[0] == crate and path.split("::")[-1] == name)
-        layouts.append(laid_out(types, ["tyNamed", ["pair", path]]))
-        if len(types[path]) != len(fields_of((crate, name))):
-            sys.exit(f"layout: {path}: not all of its {len(types[path])} fields were read in its source")
+    layouts = [laid_out(name) for (_, name), _, _ in CROSSING]
+    ROOM.mkdir(parents=True, exist_ok=True)
     (ROOM / "check.c").write_text(c_assertions(layouts), encoding="utf-8")
     (ROOM / "check.rs").write_text(rust_assertions(layouts), encoding="utf-8")
-    wrong = list(undeclared())
+    wrong = [*undeclared(), *(otherwise() if "mir" in sys.argv[1:] else [])]
     rustc = ["rustc", "--edition=2021", "--crate-type=lib", "--emit=metadata", "-Adead_code", "--out-dir", ROOM]
     for words in (["gcc", "-std=c11", "-Iinclude", "-fsyntax-only", ROOM / "check.c"], [*rustc, ROOM / "check.rs"]):
         said = subprocess.run(words, capture_output=True, text=True)

@@ -1,9 +1,17 @@
 #!/usr/bin/env bash
 # Every stored session on the bench program, at once and in pieces of 7 bytes, against its stored output; then the bench
 # program and the desk line by line (ci/interactive.py), a recipe through both and trials through the preview
-# (ci/recipe.sh). It runs the programs of target/bin, which `rt check bench desk preview` proves and builds.
+# (ci/recipe.sh): ci/sessions.sh [proved]
+# It runs the programs of target/bin, which `ci/build.sh bench desk preview` proves and builds; with the word proved it
+# first puts there those that `rt ci` has just proved and built.
 set -eu
 cd "$(dirname "$0")/.."
+if [ "${1:-}" = proved ]; then
+    mkdir -p target/bin
+    for program in bench desk preview; do
+        cp "crates/$program/out/$program" target/bin
+    done
+fi
 # The replies that are stored for a session.
 replies() {
     case "$1" in

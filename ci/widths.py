@@ -1,8 +1,8 @@
 #!/usr/bin/env python3
 """Holds the share's step to numbers of at most 32 bits (paper 02, 4/14): ci/widths.py, from the root
 
-A contract speaks of values, so a proof would take a wider working too. This reads the MIR that the toolchain makes of
-crate firmware and of what it stands on, from the sources and with no proof:
+A contract speaks of values, so a proof would take a wider working too. This reads the MIR of what the libraries for
+firmware stand on, as `rt ci` proved it and left it (ci/mir.py), so it runs after that:
 
 - the step is given three numbers of 32 bits and answers one and a flag; it adds, subtracts and compares numbers of at
   most 32 bits, and does nothing else: no cast, no float, no address, no call; it has one caller
@@ -11,81 +11,125 @@ crate firmware and of what it stands on, from the sources and with no proof:
   cast, no function outside the toolchain's library multiplies two numbers that vary, shifts or divides by a number that
   varies, or has a float
 
+A static library leaves no MIR, so its own functions are read in its source: they hand on and calculate nothing.
 Exit 1, naming what is not so.
 """
 import re
 import sys
+from pathlib import Path
 
-import layout
+import mir
 
+LIBRARIES = ("firmware", "trial_c")  # one archive each
 MODULE = "controller::motion::"
-STEP, CALLER = MODULE + "share_step", MODULE + "axis_step"
+STEP, CALLER, ANSWER = MODULE + "share_step", MODULE + "axis_step", MODULE + "Share"
 OUTSIDE = {"controller::ramp::pace", "controller::words::word"}
-PRODUCTS = {"controller::ramp::ramp": ["mul", "mul", "mul"]}
-GIVEN = f'(fnItem 0 lnil 3 (lcons (local (tyNamed (pair "{MODULE}Share" lnil)) valueLocal) ' + (
-    "(lcons (local (tyInt 32) valueLocal) " * 3
-)
-ANSWERED = f'(pair "{MODULE}Share" (fields (tcons (tyInt 32) (tcons tyBool tnil))))'
-# All words that the step's MIR may have: locals, their types, and what is done with them.
+PRODUCTS = {"controller::ramp::ramp": ["Mul", "Mul", "Mul"]}
+# All words that the step's statements may have: what is done with its locals.
 FORM = set(
-    "fnItem local valueLocal lcons lnil tyNamed tyInt tyBool pair fields tcons tnil seq assign place copy int true "
-    "false op2 add sub le lt unsigned if skip aggregate return".split()
+    "Seq Assign local steps Copy Int width value True False Opd Op2 Add Sub Le Lt Unsigned If Skip Aggregate Return"
+    .split()
 )
-VARIED = re.compile(r"\(op2 \(?(mul|div|rem|shl|shr)(?: \w+\))? ")
+VARIED = re.compile("(Wrap)?(Mul|Div|Rem)|Sh[lr]")
+# What the body of an export would calculate with.
+CALCULATES = re.compile(r"[-+*/%^|!]|[^&]&[^&m\[]|<<|>>|\bas\b|\bf(?:32|64)\b|\bwrapping_|\bchecked_")
 
 
-def functions(text):
-    """The MIR of each function, by its symbol; the toolchain's own library aside."""
-    parts = re.split(r'\(fn-def "([^"]+)" ', text)[1:]
-    return {name: body for name, body in zip(parts[::2], parts[1::2]) if not name.startswith("std::")}
+def words(part):
+    """Each word of a part of the MIR: what is done, and to what kind of thing."""
+    if isinstance(part, dict):
+        for key, inner in part.items():
+            yield key
+            yield from words(inner)
+    elif isinstance(part, list):
+        for inner in part:
+            yield from words(inner)
+    elif isinstance(part, str):
+        yield part
 
 
-def called(body):
-    return re.findall(r'\(fnRef "([^"]+)"\)', body)
+def found(part, name):
+    """What stands under this word, anywhere in a part of the MIR."""
+    if isinstance(part, dict):
+        for key, inner in part.items():
+            if key == name:
+                yield inner
+            yield from found(inner, name)
+    elif isinstance(part, list):
+        for inner in part:
+            yield from found(inner, name)
 
 
-def in_step(body):
+def called(function):
+    """The functions that one names, and each method that a type is to supply."""
+    yield from (name for name, _ in found(function["body"], "Fn"))
+    yield from ("a method" for _ in found(function["body"], "Method"))
+    yield from (f"the impl {name}" for name, *_ in found(function["body"], "Impl"))
+
+
+def in_step(function, shapes):
     """What the step has and should not."""
-    text = re.sub(r'"[^"]*"', "", body)
-    yield from sorted(set(re.findall(r"[A-Za-z]\w*", text)) - FORM)
-    yield from (f"{bits} bits" for bits in sorted(set(re.findall(r"\(\w*[iI]nt (\d+)", text))) if int(bits) > 32)
-    if not body.startswith(GIVEN) or ANSWERED not in body:
+    yield from sorted(set(words(function["body"])) - FORM)
+    kinds = [local["ty"] for local in function["locals"]]
+    answer = {"Named": [{"name": ANSWER, "lifetimes": []}, []]}
+    for kind in kinds:
+        if kind not in ({"Int": 32}, "Bool", answer):
+            yield f"a local of {kind}"
+    yield from (f"{bits} bits" for bits in found(function["body"], "width") if bits > 32)
+    yield from (f"a local that is {local['home']}" for local in function["locals"] if local["home"] != "ValueLocal")
+    if function["params"] != 3 or kinds[:4] != [answer, {"Int": 32}, {"Int": 32}, {"Int": 32}]:
         yield "other numbers go in or come out"
+    if shapes.get(ANSWER) != [{"Int": 32}, "Bool"]:
+        yield f"{ANSWER} is {shapes.get(ANSWER)}"
 
 
-def in_module(body):
-    yield from sorted(set(re.findall(r"\((?:cast|\w*[fF]loat)\b", body)))
-    yield from sorted(name for name in set(called(body)) - OUTSIDE if not name.startswith(MODULE))
+def in_module(function):
+    yield from sorted(set(words([function["body"], function["locals"]])) & {"Cast", "Float", "FloatToBits"})
+    yield from sorted(name for name in set(called(function)) - OUTSIDE if not name.startswith(MODULE))
 
 
-def varying(body):
-    """Products of two numbers that vary; quotients, remainders and shifts by a number that varies; floats."""
-    for found in VARIED.finditer(body):
-        words = (word.group() for word in layout.WORDS.finditer(body, found.end()))
-        left, right = layout.term(words), layout.term(words)
-        if right[0] != "int" and (found.group(1) != "mul" or left[0] != "int"):
-            yield found.group(1)
-    yield from re.findall(r"tyFloat", body)
+def varying(function):
+    """Products of two numbers that vary; quotients, remainders and shifts by a number that varies; floats; vectors."""
+    for operation, left, right in found(function["body"], "Op2"):
+        name = operation if isinstance(operation, str) else next(iter(operation))
+        fixed = [isinstance(side, dict) and "Int" in side for side in (left, right)]
+        if VARIED.fullmatch(name) and not fixed[1] and not (name.endswith("Mul") and fixed[0]):
+            yield name
+    yield from (word for word in words([function["body"], function["locals"]]) if word in ("Float", "Vec1", "Vec2"))
 
 
-def wrong(bodies):
-    for found in in_step(bodies.get(STEP, "")):
-        yield f"{STEP}: {found}"
-    callers = [name for name, body in bodies.items() for callee in called(body) if callee == STEP]
+def exports():
+    """Where the own source of a static library does more than hand on."""
+    for source in (source for crate in LIBRARIES for source in Path(f"crates/{crate}/src").rglob("*.rt")):
+        text = re.sub(r"//.*", "", source.read_text(encoding="utf-8"))
+        bodies = re.findall(r"^\{\n(.*?)^\}$", text, re.M | re.S)
+        if len(bodies) != len(re.findall(r"\bfn \w+", text)):
+            yield f"{source}: not all bodies were read"
+        yield from (f"{source}: `{' '.join(body.split())}` calculates" for body in bodies if CALCULATES.search(body))
+
+
+def wrong(functions):
+    if STEP not in functions:
+        yield f"{STEP} is not there"
+        return
+    for fault in in_step(functions[STEP], mir.shapes(functions)):
+        yield f"{STEP}: {fault}"
+    callers = [name for name, function in functions.items() for callee in called(function) if callee == STEP]
     if callers != [CALLER]:
         yield f"{STEP}: called by {callers}"
-    for name, body in bodies.items():
-        for found in in_module(body) if name.startswith(MODULE) else []:
-            yield f"{name}: {found}"
-        products = sorted(varying(body))
+    for name, function in functions.items():
+        for fault in in_module(function) if name.startswith(MODULE) else []:
+            yield f"{name}: {fault}"
+        products = sorted(varying(function))
         if products != PRODUCTS.get(name, []):
             yield f"{name}: {products} of numbers that vary"
+    yield from exports()
 
 
 def main():
-    bodies = functions(layout.mir())
-    faults = [f"widths: {fault}" for fault in wrong(bodies)]
-    print("\n".join(faults + [f"widths: the share's step, {len(bodies)} functions, {len(faults)} wrong"]))
+    functions = mir.functions(mir.below(*LIBRARIES))
+    faults = [f"widths: {fault}" for fault in wrong(functions)]
+    print("\n".join(faults + [f"widths: the share's step, {len(functions)} functions, {len(faults)} wrong"]))
     return 1 if faults else 0
 
 

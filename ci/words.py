@@ -22,7 +22,7 @@ import stored
 ROOT = Path(__file__).resolve().parent.parent
 SECTIONS = "## From words", "## Lines of the other bench make"
 DESK, SPEC, PAGES = "crates/desk", "crates/sentences/specs/Sentences.antt", "crates/wording/specs"
-ROW = re.compile(r'answerText \(chars "([^"]*)"\)\s+≡ (?:chars ("[^"]*")|lines \(([^()]*)\))')
+ROW = re.compile(r'answer_text \(chars "([^"]*)"\)\s+≡\s+(?:chars\s+("[^"]*")|lines\s+\(([^()]*)\))')
 LONGEST = 110  # of a text that is printed: a longer one has no room in a line of the specification
 EXAMPLE = re.compile(r"`([^`]+)` (?:prints|is) `([^`]+)`")
 QUOTED = re.compile(r"`([^`]+)`")

@@ -10,7 +10,7 @@ fn main() {
         let library = folder.join(format!("lib{name}.a"));
         println!("cargo:rerun-if-changed={}", library.display());
         if !library.is_file() {
-            eprintln!("target/staticlib/lib{name}.a is absent: run `rt staticlib {name}` first");
+            eprintln!("target/staticlib/lib{name}.a is absent: run `bash ci/build.sh {name}` first");
             std::process::exit(1);
         }
         println!("cargo:rustc-link-lib=static={name}");

@@ -4,10 +4,7 @@
 # fails.
 set -eu
 cd "$(dirname "$0")/.."
-said=$(rt check bench desk preview vectors 2>&1) || { echo "$said"; exit 2; }
-for library in firmware replay trial; do
-    said=$(rt staticlib $library 2>&1) || { echo "$said"; exit 2; }
-done
+bash ci/build.sh bench desk preview vectors firmware replay trial
 release="--release --offline --quiet"
 cargo build $release --manifest-path reference/Cargo.toml --bin bench_reference --bin preview_reference || exit 2
 cargo build $release --manifest-path compare/Cargo.toml || exit 2

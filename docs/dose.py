@@ -1,7 +1,7 @@
 #!/usr/bin/env python3
 """Draws docs/dose.svg: five travels over time, in a dose that is slowed once and stopped.
 
-    rt check bench && python3 docs/dose.py
+    ci/build.sh bench && python3 docs/dose.py
 
 Writes the session docs/dose.in, runs target/bin/bench on it, checks every travel read and draws the replies.
 """

@@ -4,7 +4,7 @@
 # complete, a pulse of axis 0 and one back of axis 1.
 set -eu
 cd "$(dirname "$0")/.."
-said=$(rt staticlib firmware 2>&1) || { echo "$said"; exit 2; }
+bash ci/build.sh firmware
 mkdir -p target/examples
 { cat crates/bench/stdout; echo "journal: 207 0 1 -1 0 0 0"; } > target/examples/expected
 gcc -std=c99 -Wall -Wextra -Werror -O2 -I include examples/session.c target/staticlib/libfirmware.a \

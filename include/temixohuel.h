@@ -1,6 +1,6 @@
 /*
- * The blending controller for firmware in C or C++: link target/staticlib/libfirmware.a (`rt staticlib firmware`), and
- * for temixohuel_trial also target/staticlib/libtrial.a (`rt staticlib trial`).
+ * The blending controller for firmware in C or C++: link target/staticlib/libfirmware.a (`ci/build.sh firmware`), and
+ * for temixohuel_trial also target/staticlib/libtrial.a (`ci/build.sh trial`).
  *
  * What a caller owes:
  * - A controller is one that power-on and these calls alone made: the `controller` of an answer of temixohuel_power_on,

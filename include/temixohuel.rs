@@ -1,5 +1,5 @@
-//! The blending controller for firmware in Rust: link target/staticlib/libfirmware.a (`rt staticlib firmware`), and for
-//! `trial` also target/staticlib/libtrial.a (`rt staticlib trial`).
+//! The blending controller for firmware in Rust: link target/staticlib/libfirmware.a (`ci/build.sh firmware`), and for
+//! `trial` also target/staticlib/libtrial.a (`ci/build.sh trial`).
 //!
 //! What include/temixohuel.h asks of a caller in C is here a type: the field of `Controller` is private, so that only
 //! power-on and calls make one, and `&mut` keeps calls and memory apart. The numbers are those of the header. A journal
