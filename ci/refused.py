@@ -1,21 +1,25 @@
 #!/usr/bin/env python3
-"""Where each must-fail edit is refused: ci/refused.py [CRATE ...], from what `rt ci` or `rt must-fail` left
+"""Where each must-fail edit is refused: ci/refused.py [CRATE ...]
 
 An edit may alter several functions, and the gate asks only that one of them is refused. This asks it of each: the
 checker refuses the function's own proof, and not only because a callee is not proved or a name of the proof no longer
 fits the code. A constant is asked of one function that uses it. An edit that alters specs/, alone or with the code that
 meets them, must be refused so in some proof. Whether a fact is false is for the reader of the edit to say: this shows
-which proofs are refused, not why. Exit 1, naming what is not shown.
+which proofs are refused, not why. Each edit is made in a copy of the crates, outside the repository, and tried there by
+`rt check`, which begins with what checks of the crate have kept. Exit 1, naming what is not shown.
 """
 import difflib
 import re
+import shutil
+import subprocess
 import sys
+import tempfile
 from pathlib import Path
 
 ROOT = Path(__file__).resolve().parent.parent
 FN = re.compile(r'\s*(?:pub(?:\(crate\))? )?(?:extern "C" )?fn (\w+)')
 # What an error says where it is no reason of its own: it rests on another one, or the proof's text does not fit.
-RESTS = re.compile(r"was not admitted|has no `Need-|has no field|not in scope|no `Tie` that|expected type `tie\.Need-")
+RESTS = re.compile(r"was not admitted|has no `|has no field|not in scope|no `Tie` that|expected type `tie\.")
 
 
 def functions(text):
@@ -64,49 +68,70 @@ def altered(crate, edited):
 def refused(log):
     """The folders of the proofs that are refused for a reason of their own."""
     for line in log.splitlines():
-        error = re.match(r"(\S+?)\.antt:\d+:\d+: error: (.*)", line)
+        error = re.match(r"(?:\./)?proofs/(\S+?)\.antt:\d+:\d+: error: (.*)", line)
         if error and not RESTS.search(error.group(2)):
-            yield error.group(1).rsplit("/proofs/", 1)[-1].removesuffix("/Proof").replace("+", "")
-        unproved = re.match(r"fn \w+::(\S+): no proof: .* does not close", line)
+            yield re.sub("/(Proof|Answers|Invariants)$", "", error.group(1)).replace("+", "")
+        unproved = re.match(r"fn \w+::(\S+): no proof: .*(did not prove|does not close)", line)
         if unproved:
-            yield unproved.group(1).replace("::", "/")
+            yield unproved.group(1).replace("::", "/").replace("+", "")
 
 
-def differing(crate, edited):
-    """The files in which the edited copy differs from the crate."""
-    copies = [at for part in ("src", "specs", "proofs") for at in (edited / part).rglob("*.*")]
-    return {str(at.relative_to(edited)) for at in copies if not same(at, crate / at.relative_to(edited))}
+def apply(edit, crate):
+    """Makes the edit in a copy of its crate; says why not, if it cannot be."""
+    path, old = None, None
+    for line in edit.read_text(encoding="utf-8").split("\n"):
+        word, _, text = line.partition(": ")
+        if word == "file":
+            path = crate / text.strip()
+        elif word == "old":
+            old = text
+        elif line.startswith("new:"):
+            before = path.read_text(encoding="utf-8")
+            if before.count(old) != 1:
+                return f"an old text stands {before.count(old)} times in {path.relative_to(crate)}"
+            path.write_text(before.replace(old, text), encoding="utf-8")
+    return None
 
 
-def same(copy, own):
-    return own.is_file() and copy.read_bytes() == own.read_bytes()
-
-
-def missing(edit):
+def missing(edit, copies):
     """What is not shown of an edit, and how many places of code it alters."""
-    crate, edited = edit.parent.parent, ROOT / "target/must-fail" / edit.parent.parent.name / edit.stem
-    named = set(re.findall(r"^file: (\S+)", edit.read_text(encoding="utf-8"), re.M))
-    if not (edited / ".log").is_file() or differing(crate, edited) != named:
-        return ["not tried since the crate was altered"], 0
-    proofs = set(refused((edited / ".log").read_text(encoding="utf-8")))
-    if not proofs:
-        return ["refused in no proof"], 0
-    if any(file.startswith("specs/") for file in named):
+    crate, edited = edit.parent.parent, copies / "crates" / edit.parent.parent.name
+    why = apply(edit, edited)
+    words = {"cwd": edited, "stdin": subprocess.DEVNULL, "stdout": subprocess.PIPE, "stderr": subprocess.STDOUT}
+    log = "" if why else subprocess.run(["rt", "check"], text=True, errors="replace", **words).stdout
+    places = [] if why else list(altered(crate, edited))
+    for part in ("src", "specs", "proofs"):
+        shutil.rmtree(edited / part, ignore_errors=True)
+        if (crate / part).is_dir():
+            shutil.copytree(crate / part, edited / part)
+    proofs = set(refused(log))
+    if why or "logic=not-proved" not in log or not proofs:
+        return [why or "refused in no proof"], 0
+    if any(file.startswith("specs/") for file in re.findall(r"^file: (\S+)", edit.read_text(encoding="utf-8"), re.M)):
         return [], 0
-    places = list(altered(crate, edited))
     ends = tuple({f"/{proof}" for proof in proofs})
     shown = [any(end.endswith(f"/{name}") for name in names for end in ends) for names in places]
     return [f"not refused in {' or '.join(sorted(names))}" for names, yes in zip(places, shown) if not yes], len(places)
+
+
+def copied(room):
+    """A copy of the crates without what was made of them."""
+    shutil.copytree(ROOT / "crates", room / "crates", ignore=shutil.ignore_patterns("out"))
+    shutil.copy(ROOT / "crates.txt", room)
+    (room / ".git").mkdir()
+    return room
 
 
 def main():
     edits = [edit for edit in sorted((ROOT / "crates").glob("*/must-fail/*.edit"))
              if edit.parent.parent.name in sys.argv[1:] or not sys.argv[1:]]
     count, lacks = 0, []
-    for edit in edits:
-        found, places = missing(edit)
-        count += places
-        lacks += [f"{edit.parent.parent.name}/{edit.stem}: {lack}" for lack in found]
+    with tempfile.TemporaryDirectory() as room:
+        copies = copied(Path(room))
+        for edit in edits:
+            found, places = missing(edit, copies)
+            count += places
+            lacks += [f"{edit.parent.parent.name}/{edit.stem}: {lack}" for lack in found]
     print("\n".join(lacks + [f"refused: {len(edits)} edits, {count} altered places of code, {len(lacks)} not shown"]))
     return 1 if lacks or not edits else 0
 
