@@ -1,7 +1,6 @@
 -- Number by number. The invariant: the numbers so far are within their ranges. Assumes nothing.
 use native.Mathlib.Omega.{arith}
 use mathlib.Core.Path.{◌≡◌, refl, sym, ◌∙◌}
-use borrow.Author.Tests.{not-true, not-false}
 use Rattle.journal.proofs.RangeLaws.{fit_next, fit_end}
 use Rattle.journal.proofs.entries.fit.Goals as goal
 
@@ -11,12 +10,12 @@ loop-k-init c = (omega arith, refl)
 pub returns-then-not-is_within : goal.returns-then-not-is_within
 returns-then-not-is_within c =
     let r = fit_next c.args.values c.loop-k.k (omega arith) c.loop-k-test.true in
-    sym (c.loop-k.invariant.1 ∙ r ∙ rw (← c.is_within.ensures, not-true c.is_within.result c.if-not-is_within.true-raw))
+    sym (c.loop-k.invariant.1 ∙ r ∙ rw (← c.is_within.ensures, c.if-not-is_within.true))
 
 pub loop-k-preserved : goal.loop-k-preserved
 loop-k-preserved c =
     let r = fit_next c.args.values c.loop-k.k (omega arith) c.loop-k-test.true in
-    (omega arith, c.loop-k.invariant.1 ∙ r ∙ rw (← c.is_within.ensures, not-false c.is_within.result c.if-not-is_within.false-raw))
+    (omega arith, c.loop-k.invariant.1 ∙ r ∙ rw (← c.is_within.ensures, c.if-not-is_within.false))
 
 pub returns : goal.returns
 returns c =

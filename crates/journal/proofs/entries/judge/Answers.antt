@@ -1,6 +1,5 @@
 -- A number as it was read, and wrong where it is out of its range. Assumes nothing.
 use mathlib.Core.Path.{sym, ◌∙◌}
-use borrow.Author.Tests.{not-true, not-false}
 use lib.ListN.{drop}
 use Rattle.journal.specs.Numbers.{found}
 use Rattle.journal.specs.Inner.{range_at}
@@ -15,9 +14,9 @@ returns-then-one-ne0 c =
 pub returns-then-not-is_within : goal.returns-then-not-is_within
 returns-then-not-is_within c =
     judged_out c.args.at (range_at c.args.k) (found 6 (drop c.args.at c.args.bytes.now)) c.read-one.result c.read-one.ensures.value
-    c.if-one-ne0.false (sym c.is_within.ensures ∙ not-true c.is_within.result c.if-not-is_within.true-raw)
+    c.if-one-ne0.false (sym c.is_within.ensures ∙ c.if-not-is_within.true)
 
 pub returns : goal.returns
 returns c =
     judged_in c.args.at (range_at c.args.k) (found 6 (drop c.args.at c.args.bytes.now)) c.read-one.result c.read-one.ensures.value
-    c.if-one-ne0.false (sym c.is_within.ensures ∙ not-false c.is_within.result c.if-not-is_within.false-raw)
+    c.if-one-ne0.false (sym c.is_within.ensures ∙ c.if-not-is_within.false)

@@ -1,8 +1,7 @@
 -- A number, group by group. Assumes nothing.
-use Prim.Native.Nat.{ℕ, ◌+◌, ◌-◌, ◌*◌, ◌<◌}
+use Prim.Native.Nat.{◌<◌}
 use native.Mathlib.Omega.{arith}
 use lib.ListN.{get_or}
-use Rattle.journal.specs.Inner.{capacity}
 use Rattle.journal.proofs.GroupLaws.{capacity_least, capacity_most}
 use Rattle.journal.proofs.ReadLaws.{
   ended,

@@ -1,5 +1,4 @@
 -- The groups of a number, written one by one. Assumes nothing.
-use Prim.Native.Nat.{◌≤◌}
 use native.Mathlib.Omega.{arith}
 use lib.ListN.{length-set}
 use Rattle.journal.proofs.WriteLaws.{last_length, next_length, some_more, smaller, last_written, next_written}
