@@ -5,7 +5,7 @@ use Rattle.sentences.specs.Sentences.{closest}
 use Rattle.sentences.proofs.closest.Given as goal
 
 abbrev pub invariant-loop-k : goal.invariant-loop-k
-invariant-loop-k l = (l.k ≤ 23) × (l.initial.k ≡ closest l.k l.w)
+invariant-loop-k l = (l.k ≤ 23) × (l.best ≡ closest l.k l.w)
 
 abbrev pub decreases-loop-k : goal.decreases-loop-k
 decreases-loop-k l = 23 - l.k

@@ -5,7 +5,7 @@ use Rattle.sentences.specs.Sentences.{place_in}
 use Rattle.sentences.proofs.place_of.Given as goal
 
 abbrev pub invariant-loop-k : goal.invariant-loop-k
-invariant-loop-k l = (l.k ≤ 23) × (l.initial.k ≡ place_in l.k l.w)
+invariant-loop-k l = (l.k ≤ 23) × (l.found ≡ place_in l.k l.w)
 
 abbrev pub decreases-loop-k : goal.decreases-loop-k
 decreases-loop-k l = 23 - l.k
