@@ -1,6 +1,6 @@
 -- What the desk says in fixed words (docs/PROTOCOL.md, "From words"): the sentence of each number, what a status says,
 -- the words that begin a form, and the form that is nearest to a word.
-use Rattle.std.specs.Prelude.{ℕ, zero, suc, Bool, cond, List, [], ◌∷◌, ◌++◌, ◌≡◌, ltb}
+use Rattle.std.specs.Prelude.{ℕ, zero, suc, Bool, cond, List, [], ◌∷◌, ◌++◌, ltb}
 use Prim.Native.String.{String}
 use Rattle.text.specs.Decimal.{decimal_of}
 use Rattle.text.specs.Parts.{part, same, common}
