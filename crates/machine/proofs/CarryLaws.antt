@@ -4,8 +4,7 @@ use Prim.Native.Nat.{ℕ, ◌-◌, ◌<◌}
 use mathlib.Core.Bool.{Bool, true, false, cond, not, ◌&&◌}
 use mathlib.Core.List.{List, [], ◌∷◌}
 use mathlib.Core.Path.{◌≡◌, refl, sym, ap, ◌∙◌}
-use native.Mathlib.Omega.{arith}
-use lib.IntN.{ℤ, ◌+ℤ◌}
+use lib.IntN.{◌+ℤ◌}
 use Rattle.laws.specs.Axes.{some, directed}
 use Rattle.laws.specs.Bits.{bit}
 use Rattle.laws.proofs.Some.{some_same, some_none}
@@ -17,7 +16,6 @@ use Rattle.machine.specs.Starts.{turned_by, outside, final, open_plan, carry_num
 use Rattle.machine.specs.Commands.{number}
 use Rattle.machine.specs.Steps.{accepted, answered, heard_by, byte_step}
 use Rattle.machine.specs.Calls.{Call, byte, run, state}
-use Rattle.machine.specs.List.{goes_on, signed}
 use Rattle.machine.specs.Carry.{
   carry_reply,
   open_after,

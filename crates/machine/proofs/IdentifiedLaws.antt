@@ -19,22 +19,9 @@ use Rattle.line.specs.Line.{char_at, silent_of, ident_of}
 use Rattle.receiver.specs.Receiver.{heard_line}
 use Rattle.reply.specs.Reply.{letter_r, refusal_ident}
 use Rattle.reply.proofs.BlockLaws.{no_blocks, one_block, reply_blocks, refusal_blocks}
-use Rattle.machine.specs.State.{Machine, with_line}
-use Rattle.machine.specs.Commands.{number}
+use Rattle.machine.specs.State.{Machine}
 use Rattle.machine.specs.Replies.{told_of, unless_silent}
-use Rattle.machine.specs.Steps.{
-  Outcome,
-  untaken,
-  gathered,
-  refused,
-  accepted,
-  outcome_of,
-  outcome,
-  answered,
-  byte_step,
-  is_short,
-  tick_step,
-}
+use Rattle.machine.specs.Steps.{Outcome, untaken, refused, accepted, outcome_of, outcome, answered, byte_step, is_short, tick_step}
 use Rattle.machine.specs.Calls.{Call, byte, tick, run, state}
 use Rattle.machine.specs.Settle.{
   Latest,

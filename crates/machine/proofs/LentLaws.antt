@@ -1,7 +1,7 @@
 -- Of a tick's lent buffer the length alone plays a part; and a tick that answers a block leaves none to come, so that
 -- of ticks with no line between them one answers a block at most. Ticks from a machine on leave what they leave in its
 -- list. Assumes nothing.
-use Prim.Native.Nat.{ℕ, zero, suc, ◌-◌, ◌≤◌}
+use Prim.Native.Nat.{ℕ, zero, suc, ◌≤◌}
 use mathlib.Core.Bool.{Bool, true, false}
 use mathlib.Core.List.{List, []}
 use mathlib.Core.Path.{◌≡◌, refl, ap, ◌∙◌}

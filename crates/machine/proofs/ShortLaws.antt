@@ -1,22 +1,21 @@
 -- Which lists leave a move to carry on (paper 02, 6/14): what the machine tells of a move at rest, by its travel and
 -- whether a distance line came since, is what is read off the list. Assumes nothing.
-use Prim.Native.Nat.{ℕ, ◌<◌}
-use mathlib.Core.Bool.{Bool, true, false, cond, not, ◌&&◌, ◌||◌}
+use Prim.Native.Nat.{ℕ}
+use mathlib.Core.Bool.{Bool, true, false, not, ◌&&◌, ◌||◌}
 use mathlib.Core.List.{List, [], ◌∷◌}
-use mathlib.Core.Path.{◌≡◌, refl, sym, ap, subst, ◌∙◌}
+use mathlib.Core.Path.{◌≡◌, refl, sym, ap, ◌∙◌}
 use native.Mathlib.Omega.{arith}
 use borrow.Author.Tests.{le-ltb}
 use lib.Dec.{ltb}
-use Rattle.laws.proofs.Tests.{true_false, neither, either, and_true}
-use Rattle.machine.specs.State.{Machine}
+use Rattle.laws.proofs.Tests.{neither, either, and_true}
 use Rattle.machine.specs.Shares as shares
 use Rattle.machine.specs.Starts.{can_carry_on}
 use Rattle.machine.specs.Calls.{Call, byte, tick, after, run, state}
 use Rattle.machine.specs.Roles.{line_of, sets_distance, carries_by, begins}
-use Rattle.machine.specs.List.{effect, start_or_carry, distance, master, counted, stop_begun, ends, whole}
+use Rattle.machine.specs.List.{effect, start_or_carry, master, counted, stop_begun, ends, whole}
 use Rattle.machine.specs.Carry.{stopped_short}
 use Rattle.machine.proofs.FitLaws.{fits as in_range_lem}
-use Rattle.machine.proofs.Told.{Told, Calls, called_on}
+use Rattle.machine.proofs.Told.{Calls, called_on}
 use Rattle.machine.proofs.ListLaws.{by_flag, old_start, whole_end, told}
 use Rattle.machine.proofs.DemandLaws.{same_whole}
 use Rattle.machine.proofs.JournalLaws.{counted_gone, ending, ending_is}
