@@ -14,18 +14,18 @@ obey-obeyed-requires c =
 pub returns-in-Refused : goal.returns-in-Refused
 returns-in-Refused c =
     let k = lined_refused c.args.c c.args.ident c.args.buf.now c.args.silent c.args.judged _ _ _ c.in-Refused.is
-        c.refuse-refused.ensures.value c.refuse-refused.ensures.buf_after in
+    c.refuse-refused.ensures.value c.refuse-refused.ensures.buf_after in
     record { value = k.0; buf_after = k.1 }
 
 pub returns-then-number-eq0 : goal.returns-then-number-eq0
 returns-then-number-eq0 c =
     let k = lined_obeyed c.args.c c.args.ident c.args.buf.now c.args.silent c.args.judged _ _ _ _ _ c.in-Accepted.is
-        c.number-number.ensures c.if-number-eq0.true c.obey-obeyed.ensures.value c.obey-obeyed.ensures.buf_after in
+    c.number-number.ensures c.if-number-eq0.true c.obey-obeyed.ensures.value c.obey-obeyed.ensures.buf_after in
     record { value = k.0; buf_after = k.1 }
 
 pub returns-else-number-eq0 : goal.returns-else-number-eq0
 returns-else-number-eq0 c =
     let k = lined_numbered c.args.c c.args.ident c.args.buf.now c.args.silent c.args.judged _ _ _ _ _ c.in-Accepted.is
-        c.number-number.ensures c.if-number-eq0.false c.refuse-refused-else-number-eq0.ensures.value
-        c.refuse-refused-else-number-eq0.ensures.buf_after in
+    c.number-number.ensures c.if-number-eq0.false c.refuse-refused-else-number-eq0.ensures.value
+    c.refuse-refused-else-number-eq0.ensures.buf_after in
     record { value = k.0; buf_after = k.1 }

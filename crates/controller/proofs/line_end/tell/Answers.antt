@@ -10,6 +10,6 @@ returns-then-silent c =
 pub returns : goal.returns
 returns c =
     let k = tell_told c.args.c c.args.ident c.args.buf.now c.args.command c.args.digits _ c.readings-told.result _ _
-        c.requires c.if-silent.false c.readings-told.ensures
-        c.write_reply.ensures.value c.write_reply.ensures.buf_after in
+    c.requires c.if-silent.false c.readings-told.ensures
+    c.write_reply.ensures.value c.write_reply.ensures.buf_after in
     record { value = k.0; buf_after = k.1 }

@@ -22,14 +22,14 @@ pub overflow_add-result : goal.overflow_add-result
 overflow_add-result c =
     let f : AxisFits c.args.plan c.args.counters c.args.length c.args.k = c.requires.1 c.if-not-fires.false in
     let s : (travel_at c.args.counters c.args.k).0 < get_or c.args.plan.distances c.args.k 0 =
-        axis_short c.args.plan c.args.counters c.args.length c.args.k _ c.share_step-s.ensures f c.if-s.true in
+    axis_short c.args.plan c.args.counters c.args.length c.args.k _ c.share_step-s.ensures f c.if-s.true in
     omega (arith, s, f.short, f.bound)
 
 pub overflow_sub-result : goal.overflow_sub-result
 overflow_sub-result c =
     let f : AxisFits c.args.plan c.args.counters c.args.length c.args.k = c.requires.1 c.if-not-fires.false in
     let s : (travel_at c.args.counters c.args.k).0 < get_or c.args.plan.distances c.args.k 0 =
-        axis_short c.args.plan c.args.counters c.args.length c.args.k _ c.share_step-s.ensures f c.if-s.true in
+    axis_short c.args.plan c.args.counters c.args.length c.args.k _ c.share_step-s.ensures f c.if-s.true in
     omega (arith, s, f.low c.if-plan-k.true)
 
 pub returns-then-plan-k : goal.returns-then-plan-k
@@ -41,14 +41,14 @@ pub overflow_add-result-then-s : goal.overflow_add-result-then-s
 overflow_add-result-then-s c =
     let f : AxisFits c.args.plan c.args.counters c.args.length c.args.k = c.requires.1 c.if-not-fires.false in
     let s : (travel_at c.args.counters c.args.k).0 < get_or c.args.plan.distances c.args.k 0 =
-        axis_short c.args.plan c.args.counters c.args.length c.args.k _ c.share_step-s.ensures f c.if-s.true in
+    axis_short c.args.plan c.args.counters c.args.length c.args.k _ c.share_step-s.ensures f c.if-s.true in
     omega (arith, s, f.short, f.bound)
 
 pub overflow_add-result-then-s-2 : goal.overflow_add-result-then-s-2
 overflow_add-result-then-s-2 c =
     let f : AxisFits c.args.plan c.args.counters c.args.length c.args.k = c.requires.1 c.if-not-fires.false in
     let s : (travel_at c.args.counters c.args.k).0 < get_or c.args.plan.distances c.args.k 0 =
-        axis_short c.args.plan c.args.counters c.args.length c.args.k _ c.share_step-s.ensures f c.if-s.true in
+    axis_short c.args.plan c.args.counters c.args.length c.args.k _ c.share_step-s.ensures f c.if-s.true in
     omega (arith, s, f.high c.if-plan-k.false, f.short, f.bound)
 
 pub returns-then-s : goal.returns-then-s
