@@ -12,7 +12,8 @@ trap 'rm -f "$said"' EXIT
 at() {
     (cd "crates/$1" && shift && "$@") < /dev/null > "$said" 2>&1 || { cat "$said"; exit 2; }
 }
-for name in ${@:-bench desk preview vectors firmware trial replay}; do
+[ $# -gt 0 ] || set -- bench desk preview vectors firmware trial replay
+for name in "$@"; do
     crate=$name
     if [ -f "crates/$name/src/main.rt" ]; then
         at "$crate" rt run
