@@ -25,6 +25,8 @@ Is a c most x n = (1 ≤ n) × (n ≤ most) × HasValue x false (a * n) c
 pub reads : (a c most n : ℕ) (x : Float) → 0 < a → 1 ≤ n → n ≤ most → HasValue x false (a * n) c
     → units_of a c most x ≡ given n
 unfolding units_of
+reads a c most n nan A L U h = absurd h
+reads a c most n (inf s) A L U h = absurd h
 reads a c most n (fin true m e) A L U h = absurd (true≢false h.0)
 reads a c most n (fin false m e) A L U h =
     let D = a * down e in

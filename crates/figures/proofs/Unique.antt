@@ -1,7 +1,7 @@
 -- Two f64 values that are the same fraction above 0, with the same sign, are the same value. Assumes nothing.
 use Rattle.std.proofs.Common.{◌≡◌, ℕ, zero, suc, ◌+◌, ◌*◌, ◌%◌, ◌^◌, ◌<◌, Bool, ◌&&◌, T, eqb, ltb, leb, ℤ, pos, negsuc, sym, refl, ap, ◌∙◌, subst, lt_irrefl, zero-lt-suc, mul_assoc, mul-pos, pow-suc, zero-mul, mul-one, mul_left_comm, arith, eqb→eq, pow-add}
 use native.Mathlib.Nat.{eq_of_mul-eq-mul_right, pow-succ'}
-use lib.Ieee.{Float, fin, Format, prec, low, emax, up, down, fits}
+use lib.Ieee.{Float, nan, inf, fin, Format, prec, low, emax, up, down, fits}
 use lib.Ieee.Fits.{down_pos, and_l}
 use lib.Ieee.Exact.{HasValue}
 
@@ -76,7 +76,11 @@ no_zero e a c A h =
 
 pub value_unique : (f : Format) (x y : Float) (s : Bool) (a c : ℕ) → 0 < a → 0 < c → T (fits f x) → T (fits f y)
     → HasValue x s a c → HasValue y s a c → x ≡ y
+value_unique f nan y s a c A C p q v w = absurd v
+value_unique f (inf t) y s a c A C p q v w = absurd v
 value_unique f (fin t zero e) y s a c A C p q v w = absurd (no_zero e a c A v.1)
+value_unique f (fin t (suc m) e) nan s a c A C p q v w = absurd w
+value_unique f (fin t (suc m) e) (inf u) s a c A C p q v w = absurd w
 value_unique f (fin t (suc m) e) (fin u zero g) s a c A C p q v w = absurd (no_zero g a c A w.1)
 value_unique f (fin t (suc m) e) (fin u (suc n) g) s a c A C p q v w =
     let r = same_odd (suc m) (suc n) e g (is_odd f t m e p) (is_odd f u n g q)

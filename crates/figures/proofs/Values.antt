@@ -17,7 +17,11 @@ use Rattle.figures.specs.Figures.{Exactly, UnitIs}
 pub mul_of : (f : Format) (x y : Float) (a c b d : ℕ) → 0 < c → 0 < d → HasValue x false a c → HasValue y false b d
     → mul f x y ≡ round f false (a * b) (c * d)
 unfolding mul
+mul_of f nan y a c b d C D h k = absurd h
+mul_of f (inf s) y a c b d C D h k = absurd h
 mul_of f (fin true m e) y a c b d C D h k = absurd (true≢false h.0)
+mul_of f (fin false m e) nan a c b d C D h k = absurd k
+mul_of f (fin false m e) (inf s) a c b d C D h k = absurd k
 mul_of f (fin false m e) (fin true n g) a c b d C D h k = absurd (true≢false k.0)
 mul_of f (fin false m e) (fin false n g) a c b d C D h k =
     round_same f false (m * up e * (n * up g)) (down e * down g) (a * b) (c * d)
@@ -40,7 +44,11 @@ apart n h e = omega arith
 pub div_of : (f : Format) (x y : Float) (a c b d : ℕ) → 0 < c → 0 < b → HasValue x false a c → HasValue y false b d
     → div f x y ≡ round f false (a * d) (c * b)
 unfolding div
+div_of f nan y a c b d C B h k = absurd h
+div_of f (inf s) y a c b d C B h k = absurd h
 div_of f (fin true m e) y a c b d C B h k = absurd (true≢false h.0)
+div_of f (fin false m e) nan a c b d C B h k = absurd k
+div_of f (fin false m e) (inf s) a c b d C B h k = absurd k
 div_of f (fin false m e) (fin true n g) a c b d C B h k = absurd (true≢false k.0)
 div_of f (fin false m e) (fin false n g) a c b d C B h k =
     let above : 0 < n * up g * d = subst (λ (z : ℕ). 0 < z) (sym k.1) (mul-pos B (down_pos g)) in
@@ -101,6 +109,8 @@ units_are a n u N h =
 -- what equals a fraction above 0 is that fraction
 pub eq_value : (x y : Float) (a c : ℕ) → 0 < a → 0 < c → HasValue x false a c → T (eq x y) → HasValue y false a c
 unfolding eq
+eq_value nan y a c A C h t = absurd h
+eq_value (inf s) y a c A C h t = absurd h
 eq_value (fin true m e) y a c A C h t = absurd (true≢false h.0)
 eq_value (fin false m e) nan a c A C h t = absurd t
 eq_value (fin false m e) (inf s) a c A C h t = absurd t
@@ -127,7 +137,11 @@ eq_value (fin false m e) (fin false n g) a c A C h t =
 -- and two values of one fraction are equal
 pub eq_same : (x y : Float) (a c : ℕ) → 0 < c → HasValue x false a c → HasValue y false a c → eq x y ≡ true
 unfolding eq
+eq_same nan y a c C h k = absurd h
+eq_same (inf s) y a c C h k = absurd h
 eq_same (fin true m e) y a c C h k = absurd (true≢false h.0)
+eq_same (fin false m e) nan a c C h k = absurd k
+eq_same (fin false m e) (inf s) a c C h k = absurd k
 eq_same (fin false m e) (fin true n g) a c C h k = absurd (true≢false k.0)
 eq_same (fin false m e) (fin false n g) a c C h k =
     let l = m * up e * down g in
