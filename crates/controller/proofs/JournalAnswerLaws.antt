@@ -6,7 +6,7 @@ use mathlib.Core.List.{List, [], ◌∷◌}
 use mathlib.Core.Path.{◌≡◌, refl, sym, ap, subst, ◌∙◌}
 use native.Mathlib.Omega.{arith}
 use lib.Dec.{eqb}
-use lib.IntN.{ℤ, pos, ◌+ℤ◌, +ℤ_idr}
+use lib.IntN.{pos, ◌+ℤ◌, +ℤ_idr}
 use Rattle.laws.specs.Bits.{weight}
 use Rattle.receiver.specs.Receiver.{before_end}
 use Rattle.journal.specs.declared.Entry.{Entry}

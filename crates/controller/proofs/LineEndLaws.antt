@@ -16,7 +16,6 @@ use Rattle.reply.specs.Reply.{told_by, reply_of, refusal_of}
 use Rattle.reply.proofs.Replies.{reply_over, reply_length, refusal_over, refusal_length}
 use Rattle.controller.specs.declared.state.Controller.{Controller}
 use Rattle.controller.specs.declared.state.ByteAnswer.{ByteAnswer}
-use Rattle.controller.specs.Inner.Orders.{does_of, zero_watch_of}
 use Rattle.controller.specs.Inner.Numbers.{number_of, turned_of}
 use Rattle.controller.specs.Inner.Status.{readings_of}
 use Rattle.controller.specs.Inner.LineEnd.{refuse_reply, refuse_of, tell_reply, obey_of, lined_of, lined_reply}

@@ -4,7 +4,7 @@ use mathlib.Core.Bool.{Bool, true, false, cond, not, ◌&&◌}
 use mathlib.Core.Path.{◌≡◌, refl, sym, ap, ◌∙◌}
 use native.Mathlib.Omega.{arith}
 use lib.Dec.{ltb, leb, eqb, lit<}
-use lib.IntN.{ℤ, pos, ◌+ℤ◌}
+use lib.IntN.{pos, ◌+ℤ◌}
 use Rattle.laws.specs.Axes.{each}
 use Rattle.outputs.proofs.Words.{word_first}
 use Rattle.reply.specs.Reply.{bias}
@@ -30,7 +30,7 @@ use Rattle.controller.specs.Inner.Motion.{
   runs_of,
   held_ran,
 }
-use Rattle.controller.specs.Inner.Words.{word_of, rest_of}
+use Rattle.controller.specs.Inner.Words.{word_of}
 use Rattle.controller.specs.Inner.Ramp.{at_rest_of, under_way_of, advance_given, pace_given}
 use Rattle.controller.proofs.TickLaws.{halves, still_is}
 use Rattle.controller.proofs.AxisLaws.{axis_is}
