@@ -11,4 +11,5 @@ returns-then-n-eq5 c =
 
 pub returns : goal.returns
 returns c =
-    on_ne (parts 32 c.args.line.now) 5 _ _ _ (λ (q : parts 32 c.args.line.now ≡ 5). c.if-n-eq5.false (c.parts-n.ensures ∙ q)) refl
+    let n = parts 32 c.args.line.now in
+    on_ne n 5 _ _ _ (λ (q : n ≡ 5). c.if-n-eq5.false (c.parts-n.ensures ∙ q)) refl

@@ -5,7 +5,7 @@ use Rattle.wording.specs.Wording.{sums_in}
 use Rattle.wording.proofs.five_sums.Given as goal
 
 abbrev pub invariant-loop-k : goal.invariant-loop-k
-invariant-loop-k l = (l.k ≤ 5) × (l.initial.k ≡ sums_in l.k l.line)
+invariant-loop-k l = (l.k ≤ 5) × (l.good ≡ sums_in l.k l.line)
 
 abbrev pub decreases-loop-k : goal.decreases-loop-k
 decreases-loop-k l = 5 - l.k

@@ -10,12 +10,14 @@ returns-then-n-eq1 c =
 
 pub returns-then-n-eq2 : goal.returns-then-n-eq2
 returns-then-n-eq2 c =
-    on_ne _ 1 _ _ _ (λ q. c.if-n-eq1.false (c.parts-n.ensures ∙ q)) (on_eq _ 2 _ _ _ (sym c.parts-n.ensures ∙ c.if-n-eq2.true)
+    on_ne _ 1 _ _ _ (λ q. c.if-n-eq1.false (c.parts-n.ensures ∙ q))
+    (on_eq _ 2 _ _ _ (sym c.parts-n.ensures ∙ c.if-n-eq2.true)
     (c.single.ensures ∙ ap (single_of c.args.k) c.part.ensures))
 
 pub returns-then-n-eq3 : goal.returns-then-n-eq3
 returns-then-n-eq3 c =
-    on_ne _ 1 _ _ _ (λ q. c.if-n-eq1.false (c.parts-n.ensures ∙ q)) (on_ne _ 2 _ _ _ (λ q. c.if-n-eq2.false (c.parts-n.ensures ∙ q))
+    on_ne _ 1 _ _ _ (λ q. c.if-n-eq1.false (c.parts-n.ensures ∙ q))
+    (on_ne _ 2 _ _ _ (λ q. c.if-n-eq2.false (c.parts-n.ensures ∙ q))
     (on_eq _ 3 _ _ _ (sym c.parts-n.ensures ∙ c.if-n-eq3.true) (c.pair.ensures
     ∙ λ i. pair_of c.args.k (c.part-then-n-eq3.ensures i) (c.part-then-n-eq3-2.ensures i))))
 

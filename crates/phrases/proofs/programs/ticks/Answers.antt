@@ -19,7 +19,9 @@ returns-then-words-eq2 c =
 pub returns-then-words-eq3 : goal.returns-then-words-eq3
 returns-then-words-eq3 c =
     let spelled = c.read_hexadecimal-word.ensures ∙ ap (spelled_of 16) c.part.ensures in
-    let by : c.ticks_by-then-words-eq3.result ≡ writes c.args.text (tick_line_text c.args.line.now c.number_at-then-words-eq3.result c.read_hexadecimal-word.result) =
+    let l = c.args.line.now in
+    let n = c.number_at-then-words-eq3.result in
+    let by : c.ticks_by-then-words-eq3.result ≡ writes c.args.text (tick_line_text l n c.read_hexadecimal-word.result) =
     c.ticks_by-then-words-eq3.ensures in
     by
     ∙ ap (writes c.args.text)

@@ -12,10 +12,14 @@ pub returns-then-k-eq-START : goal.returns-then-k-eq-START
 returns-then-k-eq-START c = let e = ap (λ (n : ℕ). M.Command (C.Start n false)) c.axis.ensures in search picks
 
 pub returns-then-k-eq-TRAVEL : goal.returns-then-k-eq-TRAVEL
-returns-then-k-eq-TRAVEL c = let e = ap (λ (n : ℕ). M.Command (C.Read (R.Travel n))) c.axis-then-k-eq-TRAVEL.ensures in search picks
+returns-then-k-eq-TRAVEL c =
+    let e = ap (λ (n : ℕ). M.Command (C.Read (R.Travel n))) c.axis-then-k-eq-TRAVEL.ensures in
+    search picks
 
 pub returns-then-k-eq-POSITION : goal.returns-then-k-eq-POSITION
-returns-then-k-eq-POSITION c = let e = ap (λ (n : ℕ). M.Command (C.Read (R.Position n))) c.axis-then-k-eq-POSITION.ensures in search picks
+returns-then-k-eq-POSITION c =
+    let e = ap (λ (n : ℕ). M.Command (C.Read (R.Position n))) c.axis-then-k-eq-POSITION.ensures in
+    search picks
 
 pub returns-then-k-eq-DWELL : goal.returns-then-k-eq-DWELL
 returns-then-k-eq-DWELL c = search picks

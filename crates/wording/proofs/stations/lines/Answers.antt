@@ -38,7 +38,9 @@ loop-k-preserved c =
     let n : c.loop-k.k < length rs = omega arith in (
       omega arith,
       omega arith,
-      λ s e. next_written s rs _ c.loop-k.k c.loop-k.invariant.0 n (c.loop-k.invariant.2 s e) c.with-fed.ensures c.line_of-more.ensures,
+      λ s e.
+          next_written s rs _ c.loop-k.k c.loop-k.invariant.0 n (c.loop-k.invariant.2 s e) c.with-fed.ensures
+          c.line_of-more.ensures,
     )
 
 pub returns : goal.returns
