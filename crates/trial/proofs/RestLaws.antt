@@ -13,7 +13,7 @@ use Rattle.machine.specs.Ramp.{Ran, full, ramped, ended, quiet, stepped, pulsed,
 use Rattle.machine.specs.Entries.{no_entry, entry, entry_of}
 use Rattle.machine.specs.Stops.{takes, cause, stops, stopping, marks, limit_or_watch, sensor_active}
 use Rattle.machine.specs.Steps.{untried, try_waiting, runs_out, tries, counts, waits, looks, too_large, tick_by, tick_step}
-use Rattle.machine.specs.Calls.{run, buffer, ticks}
+use Rattle.machine.specs.Calls.{run, buffer}
 use Rattle.controller.specs.Held.{is_end}
 use Rattle.trial.specs.declared.Trial.{Trial}
 use Rattle.trial.specs.Promises.{Rest}

@@ -3,7 +3,7 @@
 use Prim.Native.Nat.{ℕ, zero, suc, ◌+◌, ◌-◌, ◌≤◌, ◌<◌}
 use native.Mathlib.Omega.{arith}
 use mathlib.Core.Bool.{Bool, true, false, cond}
-use mathlib.Core.List.{List, ◌∷◌}
+use mathlib.Core.List.{List}
 use mathlib.Core.Path.{◌≡◌, refl, sym, ap, subst, ◌∙◌}
 use borrow.Author.Tests.{eq-eqb, ne_eqb, eqb-true, eqb-false}
 use lib.Dec.{eqb}
@@ -22,7 +22,7 @@ use Rattle.trial.specs.Trial.{start_answer, first_of, end_of, shown, run_of}
 use Rattle.trial.specs.Ticking.{ticked_of, left_of, ran_of, last_of}
 use Rattle.trial.proofs.EndLaws.{step}
 use Rattle.trial.proofs.RestLaws.{begun_stays}
-use Rattle.trial.proofs.TrialLaws.{Ran, ran_held, ran_reached, start_calls, start_state}
+use Rattle.trial.proofs.TrialLaws.{ran_held, start_calls, start_state}
 
 -- ---- The loop
 

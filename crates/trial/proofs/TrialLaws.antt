@@ -21,9 +21,8 @@ use Rattle.controller.specs.declared.state.Gathered.{Gathered}
 use Rattle.controller.specs.Held.{held, held_byte, held_gathered}
 use Rattle.controller.specs.Reach.{Reachable, Made}
 use Rattle.controller.proofs.GatherLaws.{stretch_on, after_stretch}
-use Rattle.trial.specs.declared.Trial.{Trial}
 use Rattle.trial.specs.declared.ticking.Ticked.{Ticked}
-use Rattle.trial.specs.Trial.{aside, start_line, start_answer, end_of, turned, shown, run_of, trial_of}
+use Rattle.trial.specs.Trial.{aside, start_line, start_answer, end_of, turned, run_of, trial_of}
 use Rattle.trial.specs.Ticking.{ticked_of, ran_of}
 
 -- ---- Ticks

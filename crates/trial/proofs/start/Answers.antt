@@ -5,8 +5,11 @@ use Rattle.trial.proofs.start.Goals as goal
 
 pub returns : goal.returns
 returns c =
+    let copy = c.without_line-copy in
+    let gathered = c.gather-gathered in
     record {
-      made = λ s h e. start_is s h c.args.master c.args.c c.without_line-copy.result _ c.gather-gathered.result c.byte.result refl e
-          c.without_line-copy.ensures.made c.gather-gathered.ensures.0 c.byte.ensures.0;
+      made = λ s h e.
+          start_is s h c.args.master c.args.c copy.result _ gathered.result c.byte.result refl e
+          copy.ensures.made gathered.ensures.0 c.byte.ensures.0;
       reachable_2 = c.byte.ensures.1.1;
     }

@@ -1,6 +1,4 @@
--- So many ticks, up to the end. The invariant: controller and end are those of the ticks so far, after every list of
--- calls that leaves the first controller, and the ticks left are those of the count, or none once the end is told. The
--- measure is the ticks left. Assumes nothing.
+-- So many ticks, up to the end. Assumes nothing.
 use Prim.Native.Nat.{◌+◌, ◌<◌}
 use native.Mathlib.Omega.{arith}
 use mathlib.Core.Path.{◌≡◌, refl, sym, ap, subst, ◌∙◌}
@@ -22,9 +20,10 @@ slice_bounds-tick-end c = sym c.loop-left.invariant.1
 
 pub tick-next-requires : goal.tick-next-requires
 tick-next-requires c =
+    let l = c.loop-left in
     record {
-      reachable = ran_reached c.args.c c.args.word c.loop-left.n c.loop-left.ran c.loop-left.invariant.0 c.loop-left.invariant.2;
-      in_bounds = omega (arith, c.loop-left.invariant.1);
+      reachable = ran_reached c.args.c c.args.word l.n l.ran l.invariant.0 l.invariant.2;
+      in_bounds = omega (arith, l.invariant.1);
     }
 
 pub left_behind-left-requires : goal.left_behind-left-requires
@@ -33,26 +32,32 @@ left_behind-left-requires c = omega arith
 pub loop-left-smaller : goal.loop-left-smaller
 loop-left-smaller c =
     let p : 0 < c.loop-left.left = omega arith in
-    subst (λ x. x < c.loop-left.left) (sym c.left_behind-left.ensures) (left_less c.loop-left.left c.tick-next.result.end p)
+    subst (λ x. x < c.loop-left.left) (sym c.left_behind-left.ensures)
+    (left_less c.loop-left.left c.tick-next.result.end p)
 
 pub loop-left-preserved : goal.loop-left-preserved
 loop-left-preserved c =
-    let p : 0 < c.loop-left.left = omega arith in (
-      c.loop-left.invariant.0,
-      c.tick-next.auto.1.0 ∙ c.loop-left.invariant.1,
-      next_ran c.args.c c.args.word c.loop-left.n c.loop-left.ran c.tick-next.result c.loop-left.invariant.2 c.tick-next.ensures,
-      subst (λ x. Stands c.args.count (c.loop-left.n + 1) x c.tick-next.result.end) (sym c.left_behind-left.ensures)
-          (end_next c.loop-left.ran.controller c.loop-left.ran.end (c.loop-left.n + 1) c.args.word c.tick-next.result
-          (ran_reached c.args.c c.args.word c.loop-left.n c.loop-left.ran c.loop-left.invariant.0 c.loop-left.invariant.2) c.tick-next.ensures
-          (λ x. Stands c.args.count (c.loop-left.n + 1) (left_of c.loop-left.left x) x)
-          (λ b. stands_next c.args.count c.loop-left.n c.loop-left.left c.loop-left.ran.end _ c.loop-left.invariant.3 p b refl)),
+    let a = c.args in
+    let l = c.loop-left in
+    let next = c.tick-next.result in
+    let p : 0 < l.left = omega arith in
+    let reached = ran_reached a.c a.word l.n l.ran l.invariant.0 l.invariant.2 in (
+      l.invariant.0,
+      c.tick-next.auto.buf ∙ l.invariant.1,
+      next_ran a.c a.word l.n l.ran next l.invariant.2 c.tick-next.ensures,
+      subst (λ x. Stands a.count (l.n + 1) x next.end) (sym c.left_behind-left.ensures)
+          (end_next l.ran.controller l.ran.end (l.n + 1) a.word next reached c.tick-next.ensures
+          (λ x. Stands a.count (l.n + 1) (left_of l.left x) x)
+          (λ b. stands_next a.count l.n l.left l.ran.end _ l.invariant.3 p b refl)),
     )
 
 pub returns : goal.returns
 returns c =
-    let z : c.loop-left.left ≡ 0 = omega arith in
+    let a = c.args in
+    let l = c.loop-left in
+    let z : l.left ≡ 0 = omega arith in
     λ s h e.
-    let r = c.loop-left.invariant.2 s h e in
-    let g = subst (λ x. Stands c.args.count c.loop-left.n x c.loop-left.ran.end) z c.loop-left.invariant.3 in
-    let i = subst (λ x. Stands c.args.count c.loop-left.n 0 x) (ap (λ (x : Ticked). x.end) r) g in
-    r ∙ ap (λ k. ran_of (state s h) c.args.word k) (last_is (state s h) c.args.word c.args.count c.loop-left.n i)
+    let r = l.invariant.2 s h e in
+    let g = subst (λ x. Stands a.count l.n x l.ran.end) z l.invariant.3 in
+    let i = subst (λ x. Stands a.count l.n 0 x) (ap (λ (x : Ticked). x.end) r) g in
+    r ∙ ap (λ k. ran_of (state s h) a.word k) (last_is (state s h) a.word a.count l.n i)

@@ -9,7 +9,8 @@ use Rattle.trial.proofs.ticking.tick.Goals as goal
 pub returns : goal.returns
 returns c =
     λ s h e.
-    let p = c.tick-a.ensures.0 s h e ∙ ap held_tick (any_lent (state s h) c.args.word c.args.buf.now c.requires.1) in
+    let lent = any_lent (state s h) c.args.word c.args.buf.now c.requires.in_bounds in
+    let p = c.tick-a.ensures.0 s h e ∙ ap held_tick lent in
     λ i. record {
       controller = (p i).controller;
       end = (c.first-end.ensures ∙ (λ j. first_of c.args.was.end (p j).ended c.args.n)) i;
