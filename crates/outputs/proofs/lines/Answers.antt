@@ -4,10 +4,12 @@ use Rattle.outputs.proofs.lines.Goals as goal
 
 pub returns-then-switch-lt8 : goal.returns-then-switch-lt8
 returns-then-switch-lt8 c =
-    lines_narrow c.args.switch c.args.polarity c.args.n c.args.m c.args.first c.args.second c.flipped-a.result c.flipped-b.result
+    let x = c.args in
+    lines_narrow x.switch x.polarity x.n x.m x.first x.second c.flipped-a.result c.flipped-b.result
     c.flipped-a.ensures c.flipped-b.ensures c.if-switch-lt8.true c.pair.ensures
 
 pub returns : goal.returns
 returns c =
-    lines_wide c.args.switch c.args.polarity c.args.n c.args.m c.args.first c.args.second c.flipped-a.result c.flipped-b.result
+    let x = c.args in
+    lines_wide x.switch x.polarity x.n x.m x.first x.second c.flipped-a.result c.flipped-b.result
     c.flipped-a.ensures c.flipped-b.ensures c.if-switch-lt8.false c.inverses.ensures

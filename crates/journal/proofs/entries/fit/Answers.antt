@@ -1,4 +1,4 @@
--- Number by number. The invariant: the numbers so far are within their ranges. Assumes nothing.
+-- Number by number, each by its range. Assumes nothing.
 use native.Mathlib.Omega.{arith}
 use mathlib.Core.Path.{◌≡◌, refl, sym, ◌∙◌}
 use Rattle.journal.proofs.RangeLaws.{fit_next, fit_end}

@@ -8,15 +8,18 @@ use Rattle.journal.proofs.entries.judge.Goals as goal
 
 pub returns-then-one-ne0 : goal.returns-then-one-ne0
 returns-then-one-ne0 c =
-    judged_refused c.args.at (range_at c.args.k) (found 6 (drop c.args.at c.args.bytes.now)) c.read-one.result c.read-one.ensures.value
+    let a = c.args in
+    judged_refused a.at (range_at a.k) (found 6 (drop a.at a.bytes.now)) c.read-one.result c.read-one.ensures.value
     c.if-one-ne0.true
 
 pub returns-then-not-is_within : goal.returns-then-not-is_within
 returns-then-not-is_within c =
-    judged_out c.args.at (range_at c.args.k) (found 6 (drop c.args.at c.args.bytes.now)) c.read-one.result c.read-one.ensures.value
+    let a = c.args in
+    judged_out a.at (range_at a.k) (found 6 (drop a.at a.bytes.now)) c.read-one.result c.read-one.ensures.value
     c.if-one-ne0.false (sym c.is_within.ensures ∙ c.if-not-is_within.true)
 
 pub returns : goal.returns
 returns c =
-    judged_in c.args.at (range_at c.args.k) (found 6 (drop c.args.at c.args.bytes.now)) c.read-one.result c.read-one.ensures.value
+    let a = c.args in
+    judged_in a.at (range_at a.k) (found 6 (drop a.at a.bytes.now)) c.read-one.result c.read-one.ensures.value
     c.if-one-ne0.false (sym c.is_within.ensures ∙ c.if-not-is_within.false)

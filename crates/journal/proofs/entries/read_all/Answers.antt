@@ -1,5 +1,4 @@
--- Number by number. The invariant: what is read from the given place on is what was read so far, with what is read from
--- this place on. Assumes nothing.
+-- Number by number, each judged before the next. Assumes nothing.
 use native.Mathlib.Omega.{arith}
 use mathlib.Core.Path.{refl, ◌∙◌}
 use lib.ListN.{drop, length-set}
@@ -13,20 +12,24 @@ loop-k-init c =
 
 pub returns-then-one-ne0 : goal.returns-then-one-ne0
 returns-then-one-ne0 c =
-    loop_stops c.args.bytes.now c.loop-k.k c.loop-k.place c.loop-k-test.true c.args.at c.loop-k.values c.judge-one.result c.loop-k.invariant.1.1
+    let l = c.loop-k in
+    loop_stops c.args.bytes.now l.k l.place c.loop-k-test.true c.args.at l.values c.judge-one.result l.invariant.1.1
     c.judge-one.ensures c.if-one-ne0.true
 
 pub loop-k-preserved : goal.loop-k-preserved
-loop-k-preserved c = (
-  omega (arith, c.loop-k-test.true),
-  (
-    length-set c.loop-k.values c.loop-k.k c.judge-one.result.value ∙ c.loop-k.invariant.1.0,
-    loop_goes_on c.args.bytes.now c.loop-k.k c.loop-k.place c.loop-k-test.true c.args.at c.loop-k.values c.judge-one.result
-        c.loop-k.invariant.1.1 c.judge-one.ensures c.loop-k.invariant.1.0 c.if-one-ne0.false,
-  ),
-)
+loop-k-preserved c =
+    let l = c.loop-k in
+    let one = c.judge-one in (
+      omega (arith, c.loop-k-test.true),
+      (
+        length-set l.values l.k one.result.value ∙ l.invariant.1.0,
+        loop_goes_on c.args.bytes.now l.k l.place c.loop-k-test.true c.args.at l.values one.result
+            l.invariant.1.1 one.ensures l.invariant.1.0 c.if-one-ne0.false,
+      ),
+    )
 
 pub returns : goal.returns
 returns c =
-    loop_ends c.args.bytes.now c.loop-k.values c.loop-k.place c.args.at c.loop-k.k
-    (omega (arith, c.loop-k.invariant.0, c.loop-k-test.false)) c.loop-k.invariant.1.0 c.loop-k.invariant.1.1
+    let l = c.loop-k in
+    loop_ends c.args.bytes.now l.values l.place c.args.at l.k (omega (arith, l.invariant.0, c.loop-k-test.false))
+    l.invariant.1.0 l.invariant.1.1

@@ -1,4 +1,4 @@
--- Number by number. The invariant: the sum is the length of the numbers so far. Assumes nothing.
+-- Number by number: what each takes is counted. Assumes nothing.
 use native.Mathlib.Omega.{arith}
 use mathlib.Core.Path.{sym, ap, ◌∙◌}
 use lib.ListN.{length}
