@@ -5,7 +5,6 @@ use native.Mathlib.Omega.{arith}
 use mathlib.Core.List.{List, [], ◌∷◌, ◌++◌}
 use mathlib.Core.Path.{◌≡◌, refl, sym, ap, subst, ◌∙◌}
 use lib.ListN.{length}
-use Rattle.laws.specs.Axes.{each}
 use Rattle.laws.proofs.Pick.{on_lt, on_ge, on_eq, on_ne}
 use Rattle.block.proofs.Buffers.{over_nil}
 use Rattle.machine.specs.State.{Machine}

@@ -1,5 +1,4 @@
 -- What a W line prints, and what the tick that has its block does, by computation. Assumes nothing.
-use Prim.Native.Nat.{ℕ}
 use mathlib.Core.List.{[], ◌∷◌}
 use mathlib.Core.Path.{◌≡◌, refl, ap, ◌∙◌}
 use Rattle.digits.specs.Digits.{number_of, six_of}

@@ -5,7 +5,7 @@ use native.Mathlib.Numerals.{add-one}
 use native.Mathlib.Omega.{arith}
 use mathlib.Core.Bool.{false}
 use mathlib.Core.List.{List, [], ◌∷◌}
-use mathlib.Core.Path.{◌≡◌, refl, sym, ap, subst, ◌∙◌}
+use mathlib.Core.Path.{◌≡◌, sym, ap, subst, ◌∙◌}
 use borrow.Author.Tests.{ltb-false}
 use lib.IntN.{ℤ, pos, negsuc, neg_ℤ, sub_ℕ, nat_abs, ◌+ℤ◌, +ℤ_idl, +ℤ_idr, +ℤ_assoc, +ℤ_invl}
 use lib.ListN.{get_or}
@@ -17,7 +17,6 @@ use Rattle.laws.proofs.Pick.{by_lt}
 use Rattle.laws.proofs.Five.{five}
 use Rattle.laws.proofs.Signs.{neg_size}
 use Rattle.block.specs.Block.{over}
-use Rattle.machine.specs.State.{Machine}
 use Rattle.machine.specs.Steps.{tick_step}
 use Rattle.machine.specs.Starts.{outside}
 use Rattle.machine.specs.Calls.{Call, tick, run, state, buffer, ticks}

@@ -2,7 +2,6 @@
 use mathlib.Core.List.{List}
 use mathlib.Core.Path.{sym, ap, subst, ◌∙◌}
 use lib.IntN.{ℤ}
-use lib.ListN.{length}
 use Rattle.block.specs.Block.{over}
 use Rattle.machine.specs.Calls.{state}
 use Rattle.machine.proofs.LentLaws.{any_lent}

@@ -1,7 +1,6 @@
 -- Characters one after another. The invariant: those so far are kept. The measure is the characters left. Assumes
 -- nothing.
 use native.Mathlib.Omega.{arith}
-use Rattle.session.specs.Kept.{keeping}
 use Rattle.session.proofs.KeptLaws.{kept_none, kept_one, kept_all}
 use Rattle.session.proofs.kept.Kept.push_all.Goals as goal
 
