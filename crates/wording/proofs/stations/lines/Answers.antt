@@ -34,7 +34,7 @@ loop-k-smaller c = omega arith
 pub loop-k-preserved : goal.loop-k-preserved
 loop-k-preserved c =
     let rs = c.args.converted.requests in
-    let six : length rs ≡ 6 = ? in
+    let six : length rs ≡ 6 = c.well_formed.1.0.1.1.1.1.0.1.0.1 in
     let n : c.loop-k.k < length rs = omega arith in (
       omega arith,
       omega arith,
@@ -46,7 +46,7 @@ loop-k-preserved c =
 pub returns : goal.returns
 returns c =
     let rs = c.args.converted.requests in
-    let six : length rs ≡ 6 = ? in
+    let six : length rs ≡ 6 = c.well_formed.1.0.1.1.1.1.0.1.0.1 in
     let e : c.loop-k.k ≡ c.args.converted.count = omega (arith, c.loop-k.invariant.1, c.loop-k-test.false) in
     c.loop-k.invariant.2 c.args.text (first_written c.args.text rs _ (omega arith) c.line_of-next.ensures)
     ∙ ap (λ (n : ℕ). writes c.args.text (lines_text (take n rs))) e
