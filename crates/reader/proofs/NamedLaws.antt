@@ -1,10 +1,10 @@
 -- A block is read alike with each identification. Assumes nothing.
 use Prim.Native.Nat.{ℕ}
 use mathlib.Core.Bool.{Bool, true, false, cond, not}
-use mathlib.Core.List.{List, [], ◌∷◌}
+use mathlib.Core.List.{[], ◌∷◌}
 use mathlib.Core.Path.{◌≡◌, refl, sym, ap, ◌∙◌}
-use lib.Dec.{ltb, eqb, leb}
-use Rattle.digits.specs.Digits.{digit_of, number_of, top_bit}
+use lib.Dec.{ltb, eqb}
+use Rattle.digits.specs.Digits.{digit_of, number_of}
 use Rattle.digits.specs.Characters.{digit_characters, is_one}
 use Rattle.digits.proofs.CharacterLaws.{one_to_one}
 use Rattle.digits.specs.declared.Digit.{Digit}

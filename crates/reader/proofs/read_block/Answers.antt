@@ -22,12 +22,12 @@ returns-then-s-n-ne-END c =
 pub returns-then-not-is_ident : goal.returns-then-not-is_ident
 returns-then-not-is_ident c =
     let k = promised (no_ident c.args.s.now (omega arith) (omega arith) c.if-s-n-ne-END.false
-        c.ident_in-ident.ensures c.is_ident.ensures c.if-not-is_ident.true-raw) in
+    c.ident_in-ident.ensures c.is_ident.ensures c.if-not-is_ident.true-raw) in
     record { result_value = k.0; replies_read = k.1.0; blocks_read = k.1.1 }
 
 pub returns : goal.returns
 returns c =
     let k = promised (then_read c.args.s.now (omega arith) (omega arith) c.if-s-n-ne-END.false
-        c.ident_in-ident.ensures c.is_ident.ensures c.if-not-is_ident.false-raw
-        c.read_digit-digit.ensures.value c.read_six-number.ensures c.switch_in.ensures) in
+    c.ident_in-ident.ensures c.is_ident.ensures c.if-not-is_ident.false-raw
+    c.read_digit-digit.ensures.value c.read_six-number.ensures c.switch_in.ensures) in
     record { result_value = k.0; replies_read = k.1.0; blocks_read = k.1.1 }
