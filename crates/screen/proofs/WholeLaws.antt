@@ -1,11 +1,10 @@
 -- No screen is cut: each part of it by its most bytes, the numbers in it being in their ranges. Assumes nothing.
-use Prim.Native.Nat.{ℕ, zero, suc, ◌+◌, ◌*◌, ◌/◌, ◌≤◌, ◌<◌}
+use Prim.Native.Nat.{ℕ, suc, ◌+◌, ◌*◌, ◌/◌, ◌≤◌, ◌<◌}
 use native.Mathlib.Omega.{arith}
-use mathlib.Core.List.{List, [], ◌∷◌, ◌++◌}
+use mathlib.Core.List.{List, [], ◌∷◌}
 use mathlib.Core.Path.{◌≡◌, refl, subst}
 use lib.ListN.{length, length-append}
 use Rattle.laws.proofs.Pick.{on_eq, on_ne, by_lt, by_eq}
-use Rattle.machine.specs.Calls.{chars}
 use Rattle.text.specs.Decimal.{decimal_of}
 use Rattle.text.proofs.DecimalLaws.{decimal_one, more_length, decimal_ten}
 use Rattle.text.proofs.LengthLaws.{joined_length}

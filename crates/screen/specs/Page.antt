@@ -1,6 +1,6 @@
 -- The examples of docs/PROTOCOL.md, "A dose on screen first", computed: they tie the text on screen and the form of a
 -- line to the page, whatever the code and these specs have in common.
-use Rattle.std.specs.Prelude.{ℕ, List, [], ◌∷◌, ◌++◌, ◌≡◌, pos}
+use Rattle.std.specs.Prelude.{ℕ, List, [], ◌∷◌, ◌≡◌, pos}
 use Rattle.laws.specs.Axes.{each}
 use Rattle.machine.specs.Calls.{chars}
 use Rattle.sentences.specs.Sentences.{rows}

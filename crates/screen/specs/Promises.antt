@@ -1,15 +1,7 @@
 -- What the entry `answer` promises beside what it shows, of every trial; `Whole` is what `screen` promises to it.
 use Rattle.std.specs.Prelude.{ℕ, ◌+◌, ◌*◌, ◌≤◌, ◌<◌, ◌≡◌, length}
 use Rattle.trial.specs.declared.Trial.{Trial}
-use Rattle.screen.specs.Screen.{
-  seconds_of,
-  micros_of,
-  pulses,
-  all_pulses,
-  share_of,
-  share_at,
-  screen_text,
-}
+use Rattle.screen.specs.Screen.{seconds_of, micros_of, all_pulses, share_of, share_at, screen_text}
 
 -- No screen is cut: a text has room for 250 bytes, and the screen fits. It is promised of every value that the code
 -- can hold.

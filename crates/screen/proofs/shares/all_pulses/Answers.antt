@@ -3,7 +3,7 @@ use Prim.Native.Nat.{ℕ, ◌+◌}
 use native.Mathlib.Numerals.{add-one}
 use native.Mathlib.Omega.{arith}
 use mathlib.Core.Path.{◌≡◌, refl, sym, ap, ◌∙◌}
-use Rattle.screen.specs.Screen.{pulses, pulses_in}
+use Rattle.screen.specs.Screen.{pulses_in}
 use Rattle.screen.proofs.shares.all_pulses.Goals as goal
 
 pub loop-k-init : goal.loop-k-init
