@@ -1,7 +1,6 @@
 -- `is_block` meets its contract: a letter, and a digit in capitals behind it. Assumes nothing.
 use mathlib.Core.Path.{refl}
 use mathlib.Core.Bool.{false}
-use borrow.Author.Tests.{not-true, not-false}
 use lib.ListN.{get_or}
 use Rattle.digits.specs.Digits.{digit_of}
 use Rattle.laws.proofs.Pick.{told_true, told_false}
@@ -15,9 +14,9 @@ returns-then-line-lt2 c = too_short c.args.line.now c.if-line-lt2.true
 pub returns-then-not-is_letter : goal.returns-then-not-is_letter
 returns-then-not-is_letter c =
     told_false _ (is_letter (get_or c.args.line.now 0 0)) _ (is_switch (digit_of (get_or c.args.line.now 1 0))) false
-    c.is_letter.ensures (not-true _ c.if-not-is_letter.true-raw) refl
+    c.is_letter.ensures c.if-not-is_letter.true refl
 
 pub returns : goal.returns
 returns c =
     told_true _ (is_letter (get_or c.args.line.now 0 0)) _ (is_switch (digit_of (get_or c.args.line.now 1 0))) false
-    c.is_letter.ensures (not-false _ c.if-not-is_letter.false-raw) c.is_switch.ensures
+    c.is_letter.ensures c.if-not-is_letter.false c.is_switch.ensures

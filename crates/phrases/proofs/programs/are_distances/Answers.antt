@@ -1,20 +1,19 @@
 -- Six words, and each of the five behind the first spells a number. Assumes nothing.
 use Prim.Native.Nat.{ℕ}
-use mathlib.Core.Bool.{Bool, true, false, cond, not}
+use mathlib.Core.Bool.{Bool, true, false, cond}
 use mathlib.Core.Path.{◌≡◌, refl, sym, ◌∙◌}
 use mathlib.Core.List.{List}
-use borrow.Author.Tests.{not-true, not-false}
 use Rattle.laws.proofs.Pick.{on_eq, on_ne, told_true, told_false}
 use Rattle.phrases.specs.Meanings.{words}
 use Rattle.phrases.specs.Phrases.{is_number_at, are_distances}
 use Rattle.phrases.proofs.programs.are_distances.Goals as goal
 
 -- What a test that was met, or was not, makes of the answer.
-yes : {t x b r : Bool} → b ≡ t → not b ≡ false → r ≡ x → r ≡ cond t x false
-yes e h p = told_true _ _ _ _ _ e (not-false _ h) p
+yes : {t x b r : Bool} → b ≡ t → b ≡ true → r ≡ x → r ≡ cond t x false
+yes e h p = told_true _ _ _ _ _ e h p
 
-no : {t b : Bool} (x : Bool) → b ≡ t → not b ≡ true → false ≡ cond t x false
-no x e h = told_false _ _ _ _ _ e (not-true _ h) refl
+no : {t b : Bool} (x : Bool) → b ≡ t → b ≡ false → false ≡ cond t x false
+no x e h = told_false _ _ _ _ _ e h refl
 
 -- What is still to be tested from the word at place 2, 3, 4 on.
 abbrev from_4 : List ℕ → Bool
@@ -37,34 +36,34 @@ returns-then-parts-ne6 c =
 pub returns-then-not-is_number_at : goal.returns-then-not-is_number_at
 returns-then-not-is_number_at c =
     six c.args.line.now (sym c.parts.ensures ∙ c.if-parts-ne6.false)
-    (no _ c.is_number_at.ensures c.if-not-is_number_at.true-raw)
+    (no _ c.is_number_at.ensures c.if-not-is_number_at.true)
 
 pub returns-then-not-is_number_at-2 : goal.returns-then-not-is_number_at-2
 returns-then-not-is_number_at-2 c =
     six c.args.line.now (sym c.parts.ensures ∙ c.if-parts-ne6.false)
-    (yes c.is_number_at.ensures c.if-not-is_number_at.false-raw
-    (no _ c.is_number_at-2.ensures c.if-not-is_number_at-2.true-raw))
+    (yes c.is_number_at.ensures c.if-not-is_number_at.false
+    (no _ c.is_number_at-2.ensures c.if-not-is_number_at-2.true))
 
 pub returns-then-not-is_number_at-3 : goal.returns-then-not-is_number_at-3
 returns-then-not-is_number_at-3 c =
     six c.args.line.now (sym c.parts.ensures ∙ c.if-parts-ne6.false)
-    (yes c.is_number_at.ensures c.if-not-is_number_at.false-raw
-    (yes c.is_number_at-2.ensures c.if-not-is_number_at-2.false-raw
-    (no _ c.is_number_at-3.ensures c.if-not-is_number_at-3.true-raw)))
+    (yes c.is_number_at.ensures c.if-not-is_number_at.false
+    (yes c.is_number_at-2.ensures c.if-not-is_number_at-2.false
+    (no _ c.is_number_at-3.ensures c.if-not-is_number_at-3.true)))
 
 pub returns-then-not-is_number_at-4 : goal.returns-then-not-is_number_at-4
 returns-then-not-is_number_at-4 c =
     six c.args.line.now (sym c.parts.ensures ∙ c.if-parts-ne6.false)
-    (yes c.is_number_at.ensures c.if-not-is_number_at.false-raw
-    (yes c.is_number_at-2.ensures c.if-not-is_number_at-2.false-raw
-    (yes c.is_number_at-3.ensures c.if-not-is_number_at-3.false-raw
-    (no _ c.is_number_at-4.ensures c.if-not-is_number_at-4.true-raw))))
+    (yes c.is_number_at.ensures c.if-not-is_number_at.false
+    (yes c.is_number_at-2.ensures c.if-not-is_number_at-2.false
+    (yes c.is_number_at-3.ensures c.if-not-is_number_at-3.false
+    (no _ c.is_number_at-4.ensures c.if-not-is_number_at-4.true))))
 
 pub returns : goal.returns
 returns c =
     six c.args.line.now (sym c.parts.ensures ∙ c.if-parts-ne6.false)
-    (yes c.is_number_at.ensures c.if-not-is_number_at.false-raw
-    (yes c.is_number_at-2.ensures c.if-not-is_number_at-2.false-raw
-    (yes c.is_number_at-3.ensures c.if-not-is_number_at-3.false-raw
-    (yes c.is_number_at-4.ensures c.if-not-is_number_at-4.false-raw
+    (yes c.is_number_at.ensures c.if-not-is_number_at.false
+    (yes c.is_number_at-2.ensures c.if-not-is_number_at-2.false
+    (yes c.is_number_at-3.ensures c.if-not-is_number_at-3.false
+    (yes c.is_number_at-4.ensures c.if-not-is_number_at-4.false
     c.is_number_at-5.ensures))))
