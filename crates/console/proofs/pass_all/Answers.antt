@@ -52,7 +52,7 @@ loop-i-preserved g c = record {
       after_more c.args.s c.loop-i.session c.fill-filled.result.session c.args.bytes.now c.loop-i.i
       c.fill-filled.result.count c.loop-i.invariant.reached
       (filled_session c.loop-i.session c.fill-filled.result c.fill-filled.new.out c.loop-i.out
-          c.args.bytes.now c.loop-i.i c.fill-filled.ensures.runs);
+      c.args.bytes.now c.loop-i.i c.fill-filled.ensures.runs);
 }
 
 pub returns-clause-runs : goal.returns-clause-runs

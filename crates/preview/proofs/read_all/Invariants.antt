@@ -1,10 +1,6 @@
--- Reads until nothing is left to read. The invariant: calls made the session. The measure is the turns left. Assumes
--- nothing.
+-- Reads until nothing is left to read. The invariant: calls made the session. Assumes nothing.
 use Rattle.session.specs.Session.{Running}
 use Rattle.preview.proofs.read_all.Given as goal
 
-abbrev pub invariant-loop-turns : goal.invariant-loop-turns
-invariant-loop-turns l = Running l.initial.turns.session
-
-abbrev pub decreases-loop-turns : goal.decreases-loop-turns
-decreases-loop-turns l = l.turns
+abbrev pub invariant-loop : goal.invariant-loop
+invariant-loop g l = Running l.preview.session
