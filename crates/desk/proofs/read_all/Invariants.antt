@@ -1,8 +1,0 @@
--- Reads until nothing is left to read. The measure is the turns left. Assumes nothing.
-use Rattle.desk.proofs.read_all.Given as goal
-
-abbrev pub invariant-loop-turns : goal.invariant-loop-turns
-invariant-loop-turns l = Unit {0}
-
-abbrev pub decreases-loop-turns : goal.decreases-loop-turns
-decreases-loop-turns l = l.turns
