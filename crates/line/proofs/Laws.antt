@@ -68,7 +68,8 @@ module _ (l : List ℕ) (low : 2 ≤ length l) (high : length l ≤ 9) where
   unfolding judge_of
   wrong_switch h k = rw (le-ltb (length l) 2 low, le-ltb 9 (length l) high, h, k)
 
-  pub wrong_ident : is_letter (char_at l 0) ≡ true → is_switch (char_at l 1) ≡ true → is_ident (digit_of (char_at l 8)) ≡ false
+  pub wrong_ident : is_letter (char_at l 0) ≡ true → is_switch (char_at l 1) ≡ true
+      → is_ident (digit_of (char_at l 8)) ≡ false
       → Refused 7 ≡ judge_of l
   unfolding judge_of
   wrong_ident h k m = rw (le-ltb (length l) 2 low, le-ltb 9 (length l) high, h, k, m)

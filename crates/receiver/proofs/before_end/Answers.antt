@@ -14,7 +14,8 @@ bounds-bytes-i c = omega arith
 
 pub returns-then-bytes-i-eq-END : goal.returns-then-bytes-i-eq-END
 returns-then-bytes-i-eq-END c =
-    let k = before_mark_lem (λ b. eqb b 13) c.args.bytes.now c.loop-i.i (omega arith) (eq-eqb _ 13 c.if-bytes-i-eq-END.true) in
+    let k = before_mark_lem (λ b. eqb b 13) c.args.bytes.now c.loop-i.i (omega arith)
+    (eq-eqb _ 13 c.if-bytes-i-eq-END.true) in
     omega (arith, k, c.loop-i.invariant.1)
 
 pub overflow_add-i : goal.overflow_add-i
@@ -25,7 +26,8 @@ loop-i-smaller c = omega arith
 
 pub loop-i-preserved : goal.loop-i-preserved
 loop-i-preserved c =
-    let k = before_next (λ b. eqb b 13) c.args.bytes.now c.loop-i.i (omega arith) (ne_eqb _ 13 c.if-bytes-i-eq-END.false) in
+    let k = before_next (λ b. eqb b 13) c.args.bytes.now c.loop-i.i (omega arith)
+    (ne_eqb _ 13 c.if-bytes-i-eq-END.false) in
     (omega arith, omega (arith, k, c.loop-i.invariant.1))
 
 pub returns : goal.returns

@@ -7,7 +7,8 @@ use Rattle.receiver.specs.Receiver.{before_end}
 use Rattle.receiver.proofs.before_end.Given as goal
 
 abbrev pub invariant-loop-i : goal.invariant-loop-i
-invariant-loop-i l = (l.i ≤ length l.bytes) × (length (before_end l.bytes) ≡ l.i + length (before_end (drop l.i l.bytes)))
+invariant-loop-i l =
+    (l.i ≤ length l.bytes) × (length (before_end l.bytes) ≡ l.i + length (before_end (drop l.i l.bytes)))
 
 abbrev pub decreases-loop-i : goal.decreases-loop-i
 decreases-loop-i l = length l.bytes - l.i

@@ -14,7 +14,8 @@ pub returns-then-count-eq2 : goal.returns-then-count-eq2
 returns-then-count-eq2 c =
     on_ne _ 1 _ _ _ (λ q. c.if-count-eq1.false (c.parts-count.ensures ∙ q))
     (on_eq _ 2 _ _ _ (sym c.parts-count.ensures ∙ c.if-count-eq2.true)
-    (c.with_fraction.ensures ∙ ap (λ x. with_fraction c.args.whole x c.part-behind.result.now) c.read_decimal-number.ensures
+    (c.with_fraction.ensures
+    ∙ ap (λ x. with_fraction c.args.whole x c.part-behind.result.now) c.read_decimal-number.ensures
     ∙ ap (λ l. with_fraction c.args.whole (spelled_of 10 l) l) c.part-behind.ensures))
 
 pub returns : goal.returns

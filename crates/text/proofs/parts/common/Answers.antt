@@ -27,7 +27,8 @@ small-requires-in-loop-i c = omega arith
 
 pub returns-then-small : goal.returns-then-small
 returns-then-small c =
-    let k = common_next c.args.a.now c.args.b.now c.loop-i.i c.small.result c.small-in-loop-i.result c.small.ensures c.small-in-loop-i.ensures
+    let k = common_next c.args.a.now c.args.b.now c.loop-i.i
+    c.small.result c.small-in-loop-i.result c.small.ensures c.small-in-loop-i.ensures
     (omega arith) (omega arith) in
     omega (arith, c.loop-i.invariant.1, k ∙ sym (on_ne _ _ _ _ _ c.if-small.true refl))
 
@@ -39,7 +40,8 @@ loop-i-smaller c = omega arith
 
 pub loop-i-preserved : goal.loop-i-preserved
 loop-i-preserved c =
-    let k = common_next c.args.a.now c.args.b.now c.loop-i.i c.small.result c.small-in-loop-i.result c.small.ensures c.small-in-loop-i.ensures
+    let k = common_next c.args.a.now c.args.b.now c.loop-i.i
+    c.small.result c.small-in-loop-i.result c.small.ensures c.small-in-loop-i.ensures
     (omega arith) (omega arith) in
     (omega arith, omega (arith, c.loop-i.invariant.1, k ∙ sym (on_eq _ _ _ _ _ c.if-small.false refl)))
 

@@ -14,7 +14,8 @@ bounds-bytes-i c = omega arith
 
 pub returns-then-bytes-i : goal.returns-then-bytes-i
 returns-then-bytes-i c =
-    let k = before_mark_lem (λ b. eqb b c.args.mark) c.args.bytes.now c.loop-i.i (omega arith) (eq-eqb _ _ c.if-bytes-i.true) in
+    let k = before_mark_lem (λ b. eqb b c.args.mark) c.args.bytes.now c.loop-i.i (omega arith)
+    (eq-eqb _ _ c.if-bytes-i.true) in
     omega (arith, k, c.loop-i.invariant.1)
 
 pub overflow_add-i : goal.overflow_add-i
@@ -25,7 +26,8 @@ loop-i-smaller c = omega arith
 
 pub loop-i-preserved : goal.loop-i-preserved
 loop-i-preserved c =
-    let k = before_next (λ b. eqb b c.args.mark) c.args.bytes.now c.loop-i.i (omega arith) (ne_eqb _ _ c.if-bytes-i.false) in
+    let k = before_next (λ b. eqb b c.args.mark) c.args.bytes.now c.loop-i.i (omega arith)
+    (ne_eqb _ _ c.if-bytes-i.false) in
     (omega arith, omega (arith, k, c.loop-i.invariant.1))
 
 pub returns : goal.returns

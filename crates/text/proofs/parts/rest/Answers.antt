@@ -8,9 +8,11 @@ use Rattle.text.proofs.parts.rest.Goals as goal
 
 pub returns-then-n-end : goal.returns-then-n-end
 returns-then-n-end c =
-    take_all (length c.args.bytes.now - c.args.n) (drop c.args.n c.args.bytes.now) (omega (arith, length-drop c.args.n c.args.bytes.now))
+    let bs = c.args.bytes.now in
+    take_all (length bs - c.args.n) (drop c.args.n bs) (omega (arith, length-drop c.args.n bs))
 
 pub returns-else-n-end : goal.returns-else-n-end
 returns-else-n-end c =
-    take_all (length c.args.bytes.now - length c.args.bytes.now) (drop (length c.args.bytes.now) c.args.bytes.now) (omega (arith, length-drop (length c.args.bytes.now) c.args.bytes.now))
-    ∙ (drop-length c.args.bytes.now ∙ sym (drop_of_length-le c.args.bytes.now {i = c.args.n} (omega (arith, c.if-n-end.false))))
+    let bs = c.args.bytes.now in
+    take_all (length bs - length bs) (drop (length bs) bs) (omega (arith, length-drop (length bs) bs))
+    ∙ (drop-length bs ∙ sym (drop_of_length-le bs {i = c.args.n} (omega (arith, c.if-n-end.false))))

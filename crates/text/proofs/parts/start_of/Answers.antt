@@ -36,5 +36,6 @@ pub returns : goal.returns
 returns c =
     record {
       upper_bound = omega arith;
-      bytes_value = sym (c.loop-i.invariant.1 ∙ behind_end c.args.mark c.args.bytes.now c.loop-i.i c.loop-i.left (omega arith));
+      bytes_value = sym (c.loop-i.invariant.1
+          ∙ behind_end c.args.mark c.args.bytes.now c.loop-i.i c.loop-i.left (omega arith));
     }
