@@ -1,6 +1,6 @@
 -- Lines given byte by byte to a controller that accepts each: no byte is turned away and no stop begins. Assumes
 -- nothing.
-use Prim.Native.Nat.{ℕ, ◌+◌, ◌≤◌, ◌<◌}
+use Prim.Native.Nat.{ℕ, ◌≤◌, ◌<◌}
 use mathlib.Core.Bool.{Bool, true, false, not, ◌&&◌}
 use mathlib.Core.List.{List, [], ◌∷◌, ◌++◌}
 use mathlib.Core.Path.{◌≡◌, refl, sym, ap, subst, ◌∙◌}
@@ -26,14 +26,11 @@ use Rattle.machine.specs.Roles.{
   stop_by,
 }
 use Rattle.machine.proofs.BitLaws.{status_moving}
-use Rattle.line.specs.declared.command.Command.TheVariants as C
 use Rattle.host.specs.Writer.{has_line, line_of}
 use Rattle.host.specs.RoundTrip.{calls_of, answers_to, gathers, answer_to, Obeys}
 use Rattle.host.specs.declared.Request.{Request}
 use Rattle.host.proofs.LineTrips.{line_trip}
 use Rattle.host.proofs.MachineTrip.{calls_left}
-use Rattle.station.specs.Forms as forms
-use Rattle.station.specs.Forms.{move, stop}
 use Rattle.station.specs.Executed.{written, onto, is_undisturbed}
 use Rattle.station.specs.Taken.{lent}
 

@@ -18,7 +18,7 @@ use Rattle.machine.specs.State.{Machine}
 use Rattle.machine.specs.Commands.{number}
 use Rattle.machine.specs.Steps.{Outcome, untaken, gathered, refused, accepted, outcome_of, outcome, answered, is_short}
 use Rattle.machine.specs.Calls.{Call, byte, tick, run, state}
-use Rattle.machine.specs.Roles.{role_by, start_by, begins, stops_in}
+use Rattle.machine.specs.Roles.{role_by, start_by, stops_in}
 use Rattle.machine.specs.List.{paused}
 use Rattle.machine.specs.Identified.{received}
 use Rattle.machine.proofs.CalledLaws.{Called}

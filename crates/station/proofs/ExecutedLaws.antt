@@ -33,18 +33,7 @@ use Rattle.station.specs.Station.{
   convert_of,
   picked,
 }
-use Rattle.station.specs.Executed.{
-  of_axis,
-  named_by,
-  named,
-  are_converted,
-  answered,
-  written,
-  lines_of,
-  onto,
-  Executed,
-  Executes,
-}
+use Rattle.station.specs.Executed.{of_axis, named_by, named, are_converted, answered, written, lines_of, onto, Executes}
 use Rattle.station.proofs.DueLaws.{due}
 use Rattle.station.proofs.CommandLaws.{is_plain}
 use Rattle.station.proofs.LinesLaws.{are_plain, total, in_lines}

@@ -16,8 +16,6 @@ use Rattle.machine.specs.Commands.{number}
 use Rattle.machine.specs.Steps.{power_on}
 use Rattle.line.specs.declared.command.Command.TheVariants as C
 use Rattle.host.specs.Master.{Longest}
-use Rattle.station.specs.Forms as forms
-use Rattle.station.specs.Forms.{move}
 use Rattle.station.specs.Station.{asks, distance}
 use Rattle.station.proofs.ExecutedLaws.{directed_back}
 use Rattle.station.proofs.AcceptedLaws.{last_of}

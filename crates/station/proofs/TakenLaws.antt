@@ -12,7 +12,6 @@ use Rattle.machine.specs.State.{Machine}
 use Rattle.machine.specs.Commands.{number}
 use Rattle.machine.specs.Steps.{power_on}
 use Rattle.machine.specs.Calls.{run, state}
-use Rattle.machine.specs.Roles.{other}
 use Rattle.machine.proofs.ListLaws.{told, by_flag}
 use Rattle.line.specs.declared.command.Command.TheVariants as C
 use Rattle.host.proofs.MasterLaws.{master_longest}
