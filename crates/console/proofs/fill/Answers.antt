@@ -25,7 +25,7 @@ overflow_add-i c =
       c.pass_line-passed.ensures.count_in_bounds.0,
       part_length c.args.bytes.now c.loop-i.i,
       c.loop-i.invariant.0,
-      c.well-formed.1.1.0.0,
+      c.well_formed.1.1.0.0,
     )
 
 pub loop-i-smaller : goal.loop-i-smaller
@@ -42,13 +42,13 @@ loop-i-smaller c =
 pub loop-i-preserved : goal.loop-i-preserved
 loop-i-preserved c = (
   omega (arith, c.pass_line-passed.ensures.count_in_bounds.0, part_length c.args.bytes.now c.loop-i.i, c.loop-i.invariant.0),
-  omega (arith, c.pass_line-passed.ensures.length_in_bounds, c.pass_line-passed.auto.1.0),
-  c.pass_line-passed.auto.1.0 ∙ c.loop-i.invariant.2,
+  omega (arith, c.pass_line-passed.ensures.length_in_bounds, c.pass_line-passed.auto.out),
+  c.pass_line-passed.auto.out ∙ c.loop-i.invariant.2,
   c.pass_line-passed.ensures.running_2,
-  filling_more c.args.out.now c.args.bytes.now c.loop-i.session c.loop-i.at c.loop-i.i c.loop-i.out c.args.s c.pass_line-passed.result c.pass_line-passed.new.1.0
+  filling_more c.args.out.now c.args.bytes.now c.loop-i.session c.loop-i.at c.loop-i.i c.loop-i.out c.args.s c.pass_line-passed.result c.pass_line-passed.new.out
       (omega (arith, c.loop-i.invariant.2, c.if-out-at-lt-REPLY_ROOM.false)) c.loop-i.invariant.4
-      (subst (Lined c.loop-i.session c.loop-i.at c.loop-i.out c.pass_line-passed.new.1.0 c.pass_line-passed.result) (part_rest c.args.bytes.now c.loop-i.i)
-      c.pass_line-passed.ensures.NESTED),
+      (subst (Lined c.loop-i.session c.loop-i.at c.loop-i.out c.pass_line-passed.new.out c.pass_line-passed.result) (part_rest c.args.bytes.now c.loop-i.i)
+      (c.pass_line-passed.ensures.runs, (c.pass_line-passed.ensures.runs_2, c.pass_line-passed.ensures.count_value))),
 )
 
 pub returns-after-loop-i : goal.returns-after-loop-i

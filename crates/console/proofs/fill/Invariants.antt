@@ -9,8 +9,9 @@ use Rattle.console.proofs.fill.Given as goal
 
 abbrev pub invariant-loop-i : goal.invariant-loop-i
 invariant-loop-i l =
-    (l.i ≤ length l.out) × (l.initial.i ≤ length l.initial.at) × (length l.initial.at ≡ length l.initial.out) × Running l.at
-    × Runs l.bytes (Filling l.initial.out l.out l.at l.initial.i l.i l.initial.at (take l.i l.out) (drop l.i l.out))
+    (l.i ≤ length l.bytes) × (l.at ≤ length l.out) × (length l.out ≡ length l.initial.out) × Running l.session
+    × Runs l.initial.session
+    (Filling l.initial.out l.bytes l.session l.at l.i l.out (take l.i l.bytes) (drop l.i l.bytes))
 
 abbrev pub decreases-loop-i : goal.decreases-loop-i
-decreases-loop-i l = length l.out - l.i
+decreases-loop-i l = length l.bytes - l.i

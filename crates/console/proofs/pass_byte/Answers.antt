@@ -5,16 +5,16 @@ use Rattle.console.proofs.pass_byte.Goals as goal
 
 pub overflow_add-result : goal.overflow_add-result
 overflow_add-result c =
-    let k = room_length c.args.s c.args.b c.args.at c.take-taken.result c.take-taken.new.1.0 c.args.out.now
-    c.take-taken.ensures.runs c.requires.1 c.requires.0 c.take-taken.auto.1.0 in
+    let k = room_length c.args.s c.args.b c.args.at c.take-taken.result c.take-taken.new.buf c.args.out.now
+    c.take-taken.ensures.runs c.requires.at_in_bounds c.requires.running c.take-taken.auto.buf in
     record { fits = omega (arith, k) }
 
 pub returns : goal.returns
 returns c =
     record {
       running_2 = c.take-taken.ensures.running;
-      length_in_bounds = room_length c.args.s c.args.b c.args.at c.take-taken.result c.take-taken.new.1.0 c.args.out.now c.take-taken.ensures.runs c.requires.1
-          c.requires.0 c.take-taken.auto.1.0;
-      runs = room_bench c.args.s c.args.b c.args.at c.take-taken.result c.take-taken.new.1.0 c.args.out.now c.take-taken.ensures.runs c.requires.1;
-      runs_2 = room_stands c.args.s c.args.b c.args.at c.take-taken.result c.take-taken.new.1.0 c.args.out.now c.take-taken.ensures.runs c.requires.1;
+      length_in_bounds = room_length c.args.s c.args.b c.args.at c.take-taken.result c.take-taken.new.buf c.args.out.now c.take-taken.ensures.runs c.requires.at_in_bounds
+          c.requires.running c.take-taken.auto.buf;
+      runs = room_bench c.args.s c.args.b c.args.at c.take-taken.result c.take-taken.new.buf c.args.out.now c.take-taken.ensures.runs c.requires.at_in_bounds;
+      runs_2 = room_stands c.args.s c.args.b c.args.at c.take-taken.result c.take-taken.new.buf c.args.out.now c.take-taken.ensures.runs c.requires.at_in_bounds;
     }

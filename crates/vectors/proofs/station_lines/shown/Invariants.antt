@@ -3,7 +3,7 @@ use Rattle.std.proofs.Common.{◌-◌, ◌≤◌}
 use Rattle.vectors.proofs.station_lines.shown.Given as goal
 
 abbrev pub invariant-loop-k : goal.invariant-loop-k
-invariant-loop-k l = k ≤ 6
+invariant-loop-k l = l.k ≤ 6
 
 abbrev pub decreases-loop-k : goal.decreases-loop-k
-decreases-loop-k l = 6 - k
+decreases-loop-k l = 6 - l.k
