@@ -1,7 +1,7 @@
 // The bench program (paper 01, "Host end and program"): reads standard input to its end, and writes what the bytes of a
 // read print, at once, before it reads on. What the bytes do and print is the proved work of `session` and `console`.
-// Its stored test is the session that paper 01 prints. Assumes nothing: of what is read and written no contract of the
-// library says anything.
+// Its stored test is the session that paper 01 prints. Assumes nothing beyond the contracts that the library gives to
+// the system's calls that read and write.
 #![tactic(auto)]
 
 ghost use Rattle.session.specs.Session.{Running};
@@ -101,8 +101,8 @@ fn finish(rt: &impl Print, s: Session) -> bool
     rt.write_all(block::front(&buf, taken.length)).is_ok()
 }
 
-// Power-on with switch 0 and the host's first line, the whole input, and its end. A program has no exit status of its
-// own, so a word on standard error says that it stopped before the end.
+// Power-on with switch 0 and the host's first line, the whole input, and its end. The exit status is always 0: a word
+// on standard error says that it stopped before the end.
 fn main(rt: HostRuntime) {
     let start = Session::new();
     let turn = read_all(&rt, &mut rt.stdin(), start);

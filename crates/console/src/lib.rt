@@ -1,7 +1,7 @@
 // What the bench program does with the bytes of a read (paper 01, "Host end and program"): all are taken, each once and
 // in order, and what they print is written at once. What the bytes do is the proved work of `session`; here what they
 // print is put into a buffer, one behind another, and written out. All that is handed to the call that writes is
-// stated. Assumes nothing: of what the output does with it no contract of the library says anything.
+// stated. Assumes nothing.
 #![tactic(auto)]
 
 ghost use Rattle.std.specs.Prelude.{◌+◌, ◌≤◌, ◌<◌, ◌≡◌, length, take};
@@ -39,7 +39,7 @@ pub struct Passed {
 
 // Writes a text, and answers whether the output took it. Once it has failed nothing more is written, so that what was
 // written is a first part of what is printed. The session and the bytes are there for the premise alone, that the text
-// is what they print: no contract can say what the output was given.
+// is what they print: the contract of the call that writes does not say what was written.
 fn print(rt: &impl Print, written: bool, s: Session, bytes: &[u8], text: &[u8]) -> bool
     requires running { Running s }
     requires runs { Runs s (λ x. text.now ≡ printed_by x bytes.now) }

@@ -1,6 +1,6 @@
 // The program `desk`, the host end for people (docs/PROTOCOL.md, "From words"): reads standard input to its end and
-// answers each line at once. What it answers is the proved work of `wording`. Assumes nothing: of what is read and
-// written no contract of the library says anything.
+// answers each line at once. What it answers is the proved work of `wording`. Assumes nothing beyond the contracts that
+// the library gives to the system's calls that read and write.
 #![tactic(auto)]
 
 use std::io::Read;
@@ -129,8 +129,8 @@ fn read_all(rt: &impl Print, input: &mut impl Read, before: Desk) -> Turn {
     }
 }
 
-// The whole input, and its end. A program has no exit status of its own, so a word on standard error says that it
-// stopped before the end.
+// The whole input, and its end. The exit status is always 0: a word on standard error says that it stopped before the
+// end.
 fn main(rt: HostRuntime) {
     let start = Desk::new();
     let turn = read_all(&rt, &mut rt.stdin(), start);

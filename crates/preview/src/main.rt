@@ -1,7 +1,7 @@
 // The program `preview` (paper 02, 5/14; docs/PROTOCOL.md, "A dose on screen first"): reads standard input to its end,
 // tells in words what the bench would print to each line, and shows what a trial would leave. What is answered is the
-// proved work of `session`, `wording` and `screen`. Assumes nothing: of what is read and written no contract of the
-// library says anything.
+// proved work of `session`, `wording` and `screen`. Assumes nothing beyond the contracts that the library gives to the
+// system's calls that read and write.
 #![tactic(auto)]
 
 ghost use Rattle.session.specs.Session.{Running};
@@ -94,8 +94,8 @@ fn read_all(rt: &impl Print, input: &mut impl Read, before: Preview) -> Turn
     }
 }
 
-// The whole input, and its end. A program has no exit status of its own, so a word on standard error says that it
-// stopped before the end.
+// The whole input, and its end. The exit status is always 0: a word on standard error says that it stopped before the
+// end.
 fn main(rt: HostRuntime) {
     let start = passing::fresh();
     let turn = read_all(&rt, &mut rt.stdin(), start);

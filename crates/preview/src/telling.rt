@@ -1,6 +1,5 @@
 // What preview writes: the screen of a trial, and what the bench would print, in words as the desk tells it
-// (docs/PROTOCOL.md, "A dose on screen first"). Assumes nothing: of what is written no contract of the library says
-// anything.
+// (docs/PROTOCOL.md, "A dose on screen first"). Assumes nothing.
 use text::Text;
 use wording::Desk;
 

@@ -1,8 +1,8 @@
 // Runs all that is stored in the folder data: sessions of the bench program, lists of calls, and vectors of the host
 // end and of the journal (docs/VECTORS.md). The arguments are pairs: `session`, `lists` or `vectors`, and the file to
 // read, `-` for standard input. A file's answers come after a line with its name. What is printed is compared with what
-// the reference prints, not proved; every function here is proved safe and ending. Assumes nothing: of the arguments, and
-// of what is read and written, no contract of the library says anything.
+// the reference prints, not proved; every function here is proved safe and ending. Assumes nothing beyond the contracts
+// that the library gives to the system's calls that read, write, open a file and hand out the arguments.
 #![tactic(auto)]
 
 ghost use Rattle.std.specs.Prelude.{◌≤◌, length};
@@ -70,8 +70,7 @@ fn play_file(rt: &HostRuntime, word: &[u8], name: &[u8]) {
         Err(_) => Err(Error::from(ErrorKind::InvalidFilename)),
     };
     match opened {
-        Ok(file) => {
-            let mut file = file;
+        Ok(mut file) => {
             Text::new().characters(b"# ").characters(name).print(rt);
             play(rt, word, &mut file);
         }
