@@ -1,10 +1,8 @@
 -- What words mean as a command of paper 01 (docs/PROTOCOL.md, "From words"), by the place of their first word in the
 -- table of words and by the words behind it.
-use Rattle.std.specs.Prelude.{ℕ, min, Bool, true, false, cond, List, [], ◌∷◌, ltb, eqb}
-use Rattle.digits.specs.declared.Ident.{Ident}
+use Rattle.std.specs.Prelude.{ℕ, min, true, false, cond, List, [], ◌∷◌, ltb, eqb}
 use Rattle.line.specs.declared.command.Command.{Command}
 use Rattle.line.specs.declared.command.Command.TheVariants as C
-use Rattle.line.specs.declared.command.Reading.{Reading}
 use Rattle.line.specs.declared.command.Reading.TheVariants as R
 use Rattle.machine.specs.Calls.{chars}
 use Rattle.text.specs.Parts.{part, parts, same}
