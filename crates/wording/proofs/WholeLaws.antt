@@ -1,25 +1,24 @@
 -- No answer is cut, and so a desk prints to an input the answer to each of its lines, whole and in order. Assumes
 -- nothing.
-use Prim.Native.Nat.{ℕ, ◌+◌, ◌-◌, min, ◌≤◌, ◌<◌}
+use Prim.Native.Nat.{ℕ, ◌≤◌, ◌<◌}
 use native.Mathlib.Omega.{arith}
 use mathlib.Core.Bool.{Bool, true, false, cond}
 use mathlib.Core.List.{List, [], ◌∷◌, ◌++◌}
-use mathlib.Core.Path.{◌≡◌, refl, sym, ap, ◌∙◌}
-use lib.Dec.{leb, eqb}
+use mathlib.Core.Path.{◌≡◌, refl, ap, ◌∙◌}
+use lib.Dec.{eqb}
 use lib.ListN.{length, length-append}
 use Rattle.laws.proofs.Pick.{by_bool, by_le}
 use Rattle.machine.specs.Calls.{chars}
 use Rattle.text.specs.Text.{holding}
-use Rattle.text.specs.declared.Text.{Text}
 use Rattle.station.specs.Station.{number_of, values_in}
 use Rattle.station.proofs.WritableLaws.{writable}
 use Rattle.sentences.specs.Sentences.{turned_text}
 use Rattle.sentences.proofs.Lengths.{turned_length}
-use Rattle.readout.specs.Readout.{is_block, block_text}
+use Rattle.readout.specs.Readout.{is_block}
 use Rattle.readout.proofs.Lengths.{fits}
 use Rattle.wording.specs.declared.Desk.{Desk}
 use Rattle.wording.specs.declared.Taken.{Taken}
-use Rattle.wording.specs.Wording.{are_sums, answer_text, answer_of, desk_of, taken_by, taken_of, finished_by, finished_of}
+use Rattle.wording.specs.Wording.{are_sums, answer_text, answer_of, desk_of}
 use Rattle.wording.specs.Stations.{is_station, command_in, lines_text, station_text}
 use Rattle.wording.specs.Promises.{Whole, bytes_of, prints, answers, AnswersInOrder}
 use Rattle.wording.proofs.WordingLaws.{

@@ -1,5 +1,5 @@
 -- No answer to a line of words is long: by what is printed for what the words mean. Assumes nothing.
-use Prim.Native.Nat.{ℕ, ◌+◌, ◌≤◌, ◌<◌}
+use Prim.Native.Nat.{ℕ, ◌≤◌, ◌<◌}
 use native.Mathlib.Omega.{arith}
 use mathlib.Core.Bool.{Bool, true, false, cond, ◌&&◌, false≢true}
 use mathlib.Core.List.{List, ◌++◌}
@@ -11,7 +11,6 @@ use Rattle.laws.proofs.Pick.{by_bool, by_lt}
 use Rattle.digits.specs.Digits.{end_byte, six_of}
 use Rattle.digits.specs.declared.Ident.{Ident}
 use Rattle.line.specs.Ranges.{is_within}
-use Rattle.line.specs.declared.command.Command.{Command}
 use Rattle.block.specs.Block.{front_of}
 use Rattle.host.specs.Master.{master_of}
 use Rattle.host.proofs.MasterLaws as masters

@@ -1,16 +1,15 @@
 -- Three bytes, and capitals all of them. Assumes nothing.
-use mathlib.Core.Bool.{Bool, true, false, cond, not}
+use mathlib.Core.Bool.{Bool, true, false, cond}
 use mathlib.Core.Path.{◌≡◌, refl}
-use borrow.Author.Tests.{not-true, not-false}
 use Rattle.laws.proofs.Pick.{picks, told_true, told_false}
 use Rattle.wording.proofs.stations.is_name.Goals as goal
 
 -- What a test that was met, or was not, makes of the answer.
-yes : (t b r x : Bool) → b ≡ t → not b ≡ false → r ≡ x → r ≡ cond t x false
-yes t b r x e h p = told_true b t r x false e (not-false b h) p
+yes : (t b r x : Bool) → b ≡ t → b ≡ true → r ≡ x → r ≡ cond t x false
+yes t b r x e h p = told_true b t r x false e h p
 
-no : (t b x : Bool) → b ≡ t → not b ≡ true → false ≡ cond t x false
-no t b x e h = told_false b t false x false e (not-true b h) refl
+no : (t b x : Bool) → b ≡ t → b ≡ false → false ≡ cond t x false
+no t b x e h = told_false b t false x false e h refl
 
 pub returns-then-word-ne3 : goal.returns-then-word-ne3
 returns-then-word-ne3 c = search picks

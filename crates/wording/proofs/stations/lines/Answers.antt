@@ -3,7 +3,7 @@
 use Prim.Native.Nat.{ℕ, ◌<◌}
 use native.Mathlib.Omega.{arith}
 use mathlib.Core.Path.{◌≡◌, sym, ap, ◌∙◌}
-use lib.ListN.{length, take, length-map}
+use lib.ListN.{length, take}
 use Rattle.text.specs.Text.{writes}
 use Rattle.text.proofs.TextLaws.{writes_none}
 use Rattle.wording.specs.Stations.{lines_text}
