@@ -8,6 +8,7 @@ use lib.IntN.{◌+ℤ◌}
 use Rattle.laws.specs.Axes.{some, directed}
 use Rattle.laws.specs.Bits.{bit}
 use Rattle.laws.proofs.Some.{some_same, some_none}
+use Rattle.digits.specs.declared.Ident.{Ident}
 use Rattle.line.specs.declared.command.Command.TheVariants as C
 use Rattle.inputs.specs.Inputs.{blocked_at}
 use Rattle.machine.specs.State.{Move, none, Machine, mark, with_move, with_watch, with_flags, with_pause}
@@ -87,6 +88,17 @@ module _ (s : ℕ) (h : List Call) where
 
 -- ---- What an accepted one does
 
+-- Bits 3 and 6 are cleared.
+module _ (m : Machine) (b digits : ℕ) (silent : Bool) (ident : Ident) where
+  abbrev taken : Machine
+  taken = (answered m b (accepted (C.Order 12) digits silent ident)).machine
+
+  unstopped : taken.flags.stopped ≡ false
+  unstopped = refl
+
+  unsensed : taken.flags.sensed ≡ false
+  unsensed = refl
+
 onward : (s : ℕ) (h : List Call) (b : ℕ) (buffer : List ℕ) → CarryLine (state s h) b buffer
     → number (state s h) (C.Order 12) ≡ 0 → Onward s h b (byte b buffer)
 unfolding run
@@ -101,8 +113,12 @@ onward s h b buffer l e = record {
   positions = λ k. ap (λ (a : Machine). a.position k) p;
   speed = ap (λ (a : Machine). a.move.speed) p;
   phase = ap (λ (a : Machine). a.move.phase) p;
-  stopped = status_stopped (state s (byte b buffer ∷ h)) ∙ ap (λ (a : Machine). a.flags.stopped) p;
-  sensed = status_sensed (state s (byte b buffer ∷ h)) ∙ ap (λ (a : Machine). a.flags.sensed) p;
+  stopped =
+      status_stopped (state s (byte b buffer ∷ h))
+      ∙ (ap (λ (a : Machine). a.flags.stopped) p ∙ unstopped (state s h) b l.digits l.silent l.ident);
+  sensed =
+      status_sensed (state s (byte b buffer ∷ h))
+      ∙ (ap (λ (a : Machine). a.flags.sensed) p ∙ unsensed (state s h) b l.digits l.silent l.ident);
   pause = sym u.pause ∙ ap (λ (a : Machine). a.pause) p;
   ticks = sym (ticks_run s (byte b buffer ∷ h) moving) ∙ ap (λ (a : Machine). a.move.ticks) p;
   rest = p ∙ ap (λ (v : Move). with_pause (with_flags (with_move (with_watch (heard_by (state s h) b) 0) v)
