@@ -2,7 +2,6 @@
 use Prim.Native.Nat.{ℕ}
 use mathlib.Core.List.{List}
 use mathlib.Core.Path.{refl, ap, ◌∙◌}
-use borrow.Author.Tests.{not-true, not-false}
 use Rattle.laws.proofs.Pick.{told_true, told_false}
 use Rattle.machine.specs.Calls.{chars}
 use Rattle.text.specs.Parts.{same}
@@ -14,13 +13,13 @@ pub returns-then-not-same : goal.returns-then-not-same
 returns-then-not-same c =
     told_false _ (same (word 0 c.args.line.now) (chars "D")) _ _ _
     (c.same.ensures ∙ ap (λ (w : List ℕ). same w (chars "D")) c.part.ensures)
-    (not-true _ c.if-not-same.true-raw) refl
+    c.if-not-same.true refl
 
 pub returns : goal.returns
 returns c =
     told_true _ (same (word 0 c.args.line.now) (chars "D")) _ _ _
     (c.same.ensures ∙ ap (λ (w : List ℕ). same w (chars "D")) c.part.ensures)
-    (not-false _ c.if-not-same.false-raw)
+    c.if-not-same.false
     (c.with_master.ensures
     ∙ (λ i. with_master ((c.read_decimal-master.ensures ∙ ap (spelled_of 10) c.part-2.ensures) i)
     ((c.read_decimal-ticks.ensures ∙ ap (spelled_of 10) c.part-3.ensures) i)
