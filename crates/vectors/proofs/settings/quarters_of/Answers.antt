@@ -5,4 +5,7 @@ use Rattle.vectors.proofs.settings.quarters_of.Goals as goal
 
 pub truncating_f64_to_u64-count-requires : goal.truncating_f64_to_u64-count-requires
 unfolding of_bits neg
-truncating_f64_to_u64-count-requires c = (subst T (sym c.if-y.true) tt, subst T (sym c.if-y-2.true) tt)
+truncating_f64_to_u64-count-requires c = record {
+  lower_bound = subst T (sym c.if-y.true) tt;
+  upper_bound = subst T (sym c.if-y-2.true) tt;
+}
