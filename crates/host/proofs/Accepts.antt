@@ -1,10 +1,10 @@
 -- Each command that fits, as the controller judges the letter and digits of its line: accepted as that very command.
 -- Assumes nothing.
-use Prim.Native.Nat.{ℕ, ◌+◌, ◌*◌, ◌/◌, ◌%◌, ◌≤◌, ◌<◌}
+use Prim.Native.Nat.{ℕ, ◌+◌, ◌*◌, ◌/◌, ◌≤◌, ◌<◌}
 use native.Mathlib.Omega.{arith}
 use mathlib.Core.Bool.{Bool, true, false, false≢true}
 use mathlib.Core.Path.{◌≡◌, refl, sym}
-use borrow.Author.Tests.{lt-ltb, le-leb, lt-leb}
+use borrow.Author.Tests.{lt-ltb, le-leb}
 use Rattle.laws.specs.Bits.{weight}
 use Rattle.digits.specs.Digits.{four_digits, six_digits, top_bit}
 use Rattle.line.specs.declared.command.Reading.{Reading}
@@ -18,6 +18,7 @@ use Rattle.line.specs.Line.{judge_row, judge_value}
 use Rattle.line.specs.Fits.{CommandFits}
 use Rattle.line.proofs.Ranges.{axis, distance, outputs, bits_low, by_order, by_setting, is_within_lem}
 use Rattle.host.specs.Writer.{letter_of, digits_of}
+use Rattle.host.proofs.AcceptStart.{accept_start}
 use Rattle.host.proofs.Contents.{code_back, five_back, minus_low, minus_back, length_back, setting_low}
 
 -- A command with its letter and six digits, judged.
@@ -51,21 +52,6 @@ accept_setting k v h =
     (λ high. rw (code_back 12 v (omega arith), five_back 12 v (omega arith), le-leb v 4095 high))
     (λ bits. rw (code_back 13 v (setting_low k v h), five_back 13 v (setting_low k v h), bits))
     (λ bits. rw (code_back 14 v (setting_low k v h), five_back 14 v (setting_low k v h), bits)) h
-
-accept_start : (k : ℕ) (waits : Bool) → k < 5 → Taken (C.Start k waits)
-unfolding judge_row
-accept_start k true h =
-    let e = code_back 8 ((8 + k) * four_digits) (omega arith) in
-    let f = five_back 8 ((8 + k) * four_digits) (omega arith) in
-    let g : (8 + k) * four_digits / four_digits ≡ 8 + k = omega arith in
-    let j : (8 + k) % 8 ≡ k = omega arith in
-    rw (e, f, g, j, le-leb 8 (8 + k) (omega arith), lt-ltb k 5 h)
-accept_start k false h =
-    let e = code_back 8 ((0 + k) * four_digits) (omega arith) in
-    let f = five_back 8 ((0 + k) * four_digits) (omega arith) in
-    let g : (0 + k) * four_digits / four_digits ≡ k = omega arith in
-    let j : k % 8 ≡ k = omega arith in
-    rw (e, f, g, j, lt-leb 8 k (omega arith), lt-ltb k 5 h)
 
 accept_reading : (r : Reading) → reading_fits r ≡ true → is_inputs r ≡ false → Taken (C.Read r)
 unfolding judge_row

@@ -1,5 +1,6 @@
 pub mod Contents
 pub mod Writes
+pub mod AcceptStart
 pub mod Accepts
 pub mod JudgeLaws
 pub mod Lines

@@ -10,6 +10,7 @@ pub mod TickReadBack
 pub mod ReadBack
 pub mod FieldLaws
 pub mod NamedLaws
+pub mod SwitchLaws
 pub mod OnlyBlocks
 pub mod Promises
 pub mod Examples

@@ -2,40 +2,21 @@
 -- a block that says just this. All else is 20. Assumes nothing.
 use Prim.Native.Nat.{ℕ, ◌<◌}
 use native.Mathlib.Omega.{arith}
-use mathlib.Core.Bool.{Bool, true, false, not}
-use mathlib.Core.List.{List, [], ◌∷◌, ◌++◌}
+use mathlib.Core.Bool.{Bool, true, false}
+use mathlib.Core.List.{List, [], ◌∷◌}
 use mathlib.Core.Path.{◌≡◌, refl, sym, ap, subst, ◌∙◌}
-use borrow.Author.Tests.{eqb-true, eqb-false, not-true}
+use borrow.Author.Tests.{eqb-true, eqb-false}
 use lib.Dec.{eqb}
 use Rattle.laws.proofs.Pick.{by_bool, by_eq}
-use Rattle.digits.specs.Digits.{six_digits, digit_of, capital_of, number_of, Under}
-use Rattle.digits.specs.declared.Digit.{Digit}
-use Rattle.digits.specs.declared.Digit.TheVariants.{Other, Capital, Small}
-use Rattle.digits.specs.declared.Number.{Number}
-use Rattle.digits.specs.declared.Number.TheVariants.{NotDigits, Value}
+use Rattle.digits.specs.Digits.{six_digits, digit_of, number_of}
 use Rattle.digits.specs.declared.Ident.{Ident}
 use Rattle.digits.specs.declared.Ident.TheVariants.{Absent, Given}
 use Rattle.digits.proofs.CharacterLaws.{one_to_one}
-use Rattle.digits.proofs.Laws.{Tells, digit_tells}
-use Rattle.digits.proofs.Six.{number_six, under_six}
-use Rattle.block.specs.Block.{ident_chars, block_of}
+use Rattle.digits.proofs.Laws.{digit_tells}
 use Rattle.line.specs.Line.{is_ident}
-use Rattle.host.specs.Writer.{ident_fits}
-use Rattle.reader.specs.Reader.{
-  Figures,
-  refused,
-  verdict,
-  travelled,
-  status,
-  echo,
-  placed,
-  inputs,
-  digits_in,
-  switch_in,
-  read_of,
-}
+use Rattle.reader.specs.Reader.{Figures, refused, verdict, travelled, status, echo, placed, inputs, switch_in, read_of}
 use Rattle.reader.proofs.NamedLaws as named
-use Rattle.reader.specs.Blocks.{Framed, VerdictFits, InRange, spelling, Says, Spelt, BlocksRead}
+use Rattle.reader.specs.Blocks.{VerdictFits, InRange, spelling, Says, Spelt, BlocksRead}
 use Rattle.reader.proofs.ReadLaws.{too_long}
 use Rattle.reader.proofs.EchoLaws.{echo_taken}
 use Rattle.reader.proofs.VerdictLaws.{turned_most}
@@ -47,34 +28,7 @@ use Rattle.reader.proofs.BlockLaws.{
   place_read,
   inputs_read,
 }
-use Rattle.reader.proofs.FieldLaws.{fields_spelt}
-
--- ---- the bytes
-
-module _ (a b c1 c2 c3 c4 c5 c6 : ℕ) (ident : Ident) (named : ident_fits ident ≡ true) where
-  -- The bytes with this identification.
-  abbrev bytes : List ℕ
-  bytes = a ∷ b ∷ c1 ∷ c2 ∷ c3 ∷ c4 ∷ c5 ∷ c6 ∷ (ident_chars ident ++ (13 ∷ []))
-
-  digits_spelt : (v : ℕ) → Framed v ident → capital_of v ≡ b → (n : Number)
-      → number_of (c1 ∷ c2 ∷ c3 ∷ c4 ∷ c5 ∷ c6 ∷ []) ≡ n
-      → Spelt bytes (digits_in a v n ident)
-  unfolding block_of
-  digits_spelt v f p NotDigits e = refl
-  digits_spelt v f p (Value n true) e = refl
-  digits_spelt v f p (Value n false) e =
-      fields_spelt v n ident bytes f (subst (Under six_digits) e (under_six c1 c2 c3 c4 c5 c6)) a
-      (λ i. a ∷ p i ∷ (number_six c1 c2 c3 c4 c5 c6 n e i ++ (ident_chars ident ++ (13 ∷ []))))
-
-  switch_spelt : (d : Digit) → Tells b d
-      → Spelt bytes (switch_in a d (number_of (c1 ∷ c2 ∷ c3 ∷ c4 ∷ c5 ∷ c6 ∷ [])) ident)
-  switch_spelt Other t = refl
-  switch_spelt (Capital v) t =
-      by_bool (Spelt bytes) (not (eqb v 12)) _ _
-      (λ q. digits_spelt v
-      (record { digit = t.0; other = eqb-false v 12 (not-true (eqb v 12) q); named = named }) t.1 _ refl)
-      (λ _. refl)
-  switch_spelt (Small v) t = refl
+use Rattle.reader.proofs.SwitchLaws.{switch_spelt}
 
 -- Every row of bytes.
 pub only_blocks : (s : List ℕ) → Spelt s (read_of s)

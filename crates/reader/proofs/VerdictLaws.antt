@@ -80,10 +80,16 @@ verdict_fits n ident e above =
 
 -- A number over 26 is none.
 pub number_over : (n : ℕ) (ident : Ident) → 26 < n → is_verdict n ident ≡ false
-number_over n ident h = when (is_verdict n ident) refl
-  where
-    when : (t : Bool) → is_verdict n ident ≡ t → t ≡ false
-    when true e =
-        let l = turned_most n (verdict_fits n ident e (λ (z : n ≡ 0). omega arith)).high in
-        absurd (omega arith)
-    when false e = refl
+number_over n ident h =
+    let none : (n ≡ 0 → ⊥) = λ (p : n ≡ 0). omega arith in
+    let far : (n ≡ 26 → ⊥) = λ (p : n ≡ 26). omega arith in
+    let high : 17 < n = omega arith in
+    let above : 7 < n = omega arith in
+    rw (
+      ne_eqb n 0 none,
+      le-leb 8 n (omega arith),
+      lt-leb n 17 high,
+      ne_eqb n 26 far,
+      le-leb 4 n (omega arith),
+      lt-leb n 7 above,
+    )

@@ -2,6 +2,7 @@ pub mod MarkLaws
 pub mod NameLaws
 pub mod NumberLaws
 pub mod FormLaws
+pub mod SpeedLaws
 pub mod ValueLaws
 pub mod FreeLaws
 pub mod CompleteLaws

@@ -1,48 +1,23 @@
 -- The command values of what is held are those of what the command says: a number that was kept as the largest is out
 -- of range as it was. And the answer by its three tests. Assumes nothing.
-use Prim.Native.Nat.{ℕ, ◌*◌, min, ◌≤◌, ◌<◌}
+use Prim.Native.Nat.{ℕ, min}
 use native.Mathlib.Omega.{arith}
 use mathlib.Core.Bool.{Bool, true, false, cond, not, ◌&&◌, ◌||◌}
-use mathlib.Core.List.{List, [], ◌∷◌}
+use mathlib.Core.List.{List, []}
 use mathlib.Core.Path.{◌≡◌, refl, ◌∙◌}
-use borrow.Author.Tests.{lt-ltb, eq-eqb, ne_eqb, ltb-true, ltb-false, eqb-true}
+use borrow.Author.Tests.{lt-ltb, ltb-true, ltb-false}
 use lib.Dec.{ltb, eqb}
 use lib.IntN.{ℤ, nat_abs}
 use Rattle.laws.specs.Axes.{is_minus}
-use Rattle.line.specs.declared.command.Command.TheVariants as C
 use Rattle.numerals.specs.Numerals.{largest}
 use Rattle.host.specs.declared.Request.{Request}
 use Rattle.station.specs.declared.Converted.{Converted}
 use Rattle.station.specs.declared.points.Distance.{Distance}
 use Rattle.station.specs.Names.{is_listed}
 use Rattle.station.specs.Forms.{Form, other, speed, move, stop, is_ours, name_of, form_of}
-use Rattle.station.specs.Station.{asks, values_of, is_other, is_far, is_out, number_of, values_in, convert_of}
-use Rattle.station.specs.Held.{held, held_form, answer, held_speed, moved_values, held_move, held_answer}
-
--- The answer for what one of the four says.
-abbrev answer_in : Form → Converted
-answer_in f = cond (is_other f) (answer 27 []) (cond (is_out f) (answer 29 []) (answer 0 (values_of f)))
-
--- A number n and what is held of it, v: up to the most that is in range they are equal, and beyond it both are.
-record Kept (most n v : ℕ) : Type 0 where
-  pub within : n ≤ most → v ≡ n
-  pub over : most < n → most < v
-
--- ---- A speed
-
-held_speed_lem : (n v : ℕ) → Kept 250000 n v → held_speed v ≡ answer_in (speed n)
-held_speed_lem n v k = when (eqb n 0) (ltb 250000 n) refl refl
-  where
-    when : (s t : Bool) → eqb n 0 ≡ s → ltb 250000 n ≡ t
-        → held_speed v ≡ cond (s || t) (answer 29 []) (answer 0 (asks (C.Set 8 (4 * n)) ∷ []))
-    when true t e f =
-        let z : n ≡ 0 = eqb-true n 0 e in
-        let y : v ≡ n = k.within (omega arith) in
-        rw (eq-eqb v 0 (omega arith))
-    when false true e f =
-        let y : 250000 < v = k.over (ltb-true 250000 n f) in
-        rw (ne_eqb v 0 (λ (q : v ≡ 0). omega arith), lt-ltb 250000 v y)
-    when false false e f = rw (k.within (ltb-false 250000 n f), e, f)
+use Rattle.station.specs.Station.{values_of, is_other, is_far, is_out, number_of, values_in, convert_of}
+use Rattle.station.specs.Held.{held, held_form, answer, moved_values, held_move, held_answer}
+use Rattle.station.proofs.SpeedLaws.{answer_in, Kept, speed_answer}
 
 -- ---- A move
 
@@ -71,8 +46,7 @@ held_move_lem x y =
 
 held_answer_lem : (f : Form) → held_answer (held_form f) ≡ answer_in f
 held_answer_lem other = refl
-held_answer_lem (speed n) =
-    held_speed_lem n (min largest n) (record { within = λ h. omega arith; over = λ h. omega arith })
+held_answer_lem (speed n) = speed_answer n
 held_answer_lem (move x y) = held_move_lem x y
 held_answer_lem stop = refl
 
