@@ -1,5 +1,5 @@
 -- All bytes of a slice, each once and in order. Assumes nothing.
-use Rattle.std.proofs.Common.{arith, ◌∙◌, sym, refl, ◌≤◌, ◌≡◌, length}
+use Rattle.std.proofs.Common.{arith, ◌∙◌, sym, refl, ◌≡◌, length}
 use Rattle.session.proofs.AfterLaws.{after_none, after_more, after_all}
 use Rattle.console.proofs.FilledLaws.{filled_session, filled_front, filled_end, filled_some}
 use Rattle.console.proofs.pass_all.Goals as goal
