@@ -34,6 +34,7 @@ pub mod CarryLaws
 pub mod WatchStageLaws
 pub mod WatchLaws
 pub mod SettleStageLaws
+pub mod SettleByteLaws
 pub mod WLineLaws
 pub mod SettleLaws
 pub mod IdentifiedLaws

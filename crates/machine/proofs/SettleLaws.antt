@@ -37,7 +37,8 @@ use Rattle.machine.specs.Settle.{
 }
 use Rattle.machine.proofs.WatchLaws.{setting_is, count_is, fills}
 use Rattle.machine.proofs.WLineLaws.{ended_is, accepts_is}
-use Rattle.machine.proofs.SettleStageLaws.{Waits, waits_tick, ran_kept, byte_waits}
+use Rattle.machine.proofs.SettleByteLaws.{byte_waits}
+use Rattle.machine.proofs.SettleStageLaws.{Waits, waits_tick, ran_kept}
 
 -- ---- The machine against the list
 

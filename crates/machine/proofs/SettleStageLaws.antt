@@ -2,7 +2,6 @@
 -- nothing.
 use Prim.Native.Nat.{ℕ, ◌+◌, ◌-◌}
 use mathlib.Core.Bool.{Bool, true, false, cond, not, ◌&&◌}
-use mathlib.Core.List.{List}
 use mathlib.Core.Path.{◌≡◌, refl, sym, subst, ◌∙◌}
 use native.Mathlib.Omega.{arith}
 use lib.Dec.{ltb, leb, eqb}
@@ -20,7 +19,6 @@ use Rattle.machine.specs.Commands.{does, stores, drops, obeys, turned}
 use Rattle.machine.specs.Steps.{
   Outcome,
   accepted,
-  outcome,
   answered,
   heard_by,
   Tried,
@@ -32,7 +30,6 @@ use Rattle.machine.specs.Steps.{
   looks,
 }
 use Rattle.machine.specs.Settle.{Latest, no_line, w_line, latest_by, ends_w, outputs_of, outputs_by}
-use Rattle.machine.proofs.Outcomes.{by_outcome}
 
 -- None is altered.
 pub record Kept (m a : Machine) : Type 0 where
@@ -101,7 +98,7 @@ does_kept m (C.Order code) =
 does_kept m (C.Outputs v) = record { switch = refl; settle = refl; inputs = refl; outputs = refl }
 does_kept m (C.Read r) = record { switch = refl; settle = refl; inputs = refl; outputs = refl }
 
-turned_kept : (m : Machine) (n : ℕ) → Kept m (turned m n)
+pub turned_kept : (m : Machine) (n : ℕ) → Kept m (turned m n)
 turned_kept m n =
     by_bool (Kept m) (leb 10 n) _ _ (λ e. record { switch = refl; settle = refl; inputs = refl; outputs = refl })
     (λ e. record { switch = refl; settle = refl; inputs = refl; outputs = refl })
@@ -128,7 +125,7 @@ pub record Byte (m : Machine) (b : ℕ) (l : Latest) (n : ℕ) (o : Outcome) : T
   pub outputs : (answered m b o).machine.outputs ≡ outputs_by o m.outputs
   pub waits : Waits (answered m b o).machine.settle (latest_by o l) (cond (ends_w o) 0 n)
 
-accepted_waits : (m : Machine) (b : ℕ) (l : Latest) (n : ℕ) → Waits m.settle l n
+pub accepted_waits : (m : Machine) (b : ℕ) (l : Latest) (n : ℕ) → Waits m.settle l n
     → (c : Command) (digits : ℕ) (silent : Bool) (ident : Ident) → Byte m b l n (accepted c digits silent ident)
 accepted_waits m b l n e c digits silent ident =
     let k = does_kept (heard_by m b) c in
@@ -140,17 +137,3 @@ accepted_waits m b l n e c digits silent ident =
     when true true = refl
     when true false = (refl, refl)
     when false q = subst (λ (x : Settle). Waits x l n) (sym (does_kept (heard_by m b) c).settle) e
-
-pub byte_waits : (m : Machine) (b : ℕ) (buffer : List ℕ) (l : Latest) (n : ℕ) → Waits m.settle l n
-    → Byte m b l n (outcome m b buffer)
-byte_waits m b buffer l n e =
-    by_outcome m (Byte m b l n) (record { switch = refl; inputs = refl; outputs = refl; waits = e })
-    (record { switch = refl; inputs = refl; outputs = refl; waits = e })
-    (λ number silent ident. let k = turned_kept (heard_by m b) number in
-    record {
-      switch = k.switch;
-      inputs = k.inputs;
-      outputs = k.outputs;
-      waits = subst (λ (x : Settle). Waits x l n) (sym k.settle) e;
-    })
-    (λ c digits silent ident q. accepted_waits m b l n e c digits silent ident) b buffer
