@@ -1,8 +1,8 @@
 // The reader on a line `B hh..`.
 ghost use Rattle.std.specs.Prelude.{◌≤◌};
 
-use crate::text::Text;
-use crate::{form, text};
+use crate::texts::Text;
+use crate::{form, texts};
 use digits::{Ident, TOP_BIT};
 use reader::reading::Reading;
 use reply::Position;
@@ -108,7 +108,7 @@ fn shown(reading: Reading) -> Text {
 pub(crate) fn answer(line: &[u8]) -> Text {
     let n = line.len();
     if n < 2 {
-        return text::question();
+        return texts::question();
     }
     let longest = b"B hhhhhhhhhhhhhhhhhhhhhhhhhhhhhhhh";
     if n % 2 == 0 && form::fits(line, block::front(longest, n)) {
@@ -116,5 +116,5 @@ pub(crate) fn answer(line: &[u8]) -> Text {
         let reading = reader::read_block(block::front(&bytes, n / 2 - 1));
         return shown(reading);
     }
-    text::question()
+    texts::question()
 }

@@ -1,6 +1,6 @@
 // Every number of units, there and back, as one digest: lines `D`.
 use crate::settings;
-use crate::text::Text;
+use crate::texts::Text;
 use figures::Units;
 use line::command::{TOP_SLOPE, TOP_SPEED};
 use replay::digest;

@@ -1,5 +1,5 @@
 // The host end and the journal on one line of the page.
-use crate::text::Text;
+use crate::texts::Text;
 use crate::{blocks, digests, form, journal_lines, pairs, settings, station_lines, writer};
 
 // The master picker.

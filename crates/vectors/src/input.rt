@@ -2,8 +2,8 @@
 ghost use Rattle.std.specs.Prelude.{◌≤◌, length};
 
 use crate::lists::List;
-use crate::text::FEED;
-use crate::{host_end, lists, text};
+use crate::texts::FEED;
+use crate::{host_end, lists, texts};
 use std::io::Read;
 
 // The buffer for the bytes of a read.
@@ -67,7 +67,7 @@ fn end_line(
     let list = stand.list;
     let n = stand.length;
     if LONGEST < n {
-        text::question().print(rt);
+        texts::question().print(rt);
         return list;
     }
     let chars = stand.chars;

@@ -1,8 +1,8 @@
 // The journal's writer on a line `A hh hh hhhhhhhhhhhhhhhh hh e e e e e`, and its reader on a line `J hh hh..`.
 ghost use Rattle.std.specs.Prelude.{◌≤◌};
 
-use crate::text::Text;
-use crate::{form, text, writer};
+use crate::texts::Text;
+use crate::{form, texts, writer};
 use journal::{Entry, EntryAt};
 
 // Where a journal begins in its line.
@@ -53,7 +53,7 @@ fn lent(room: usize, place: usize, entry: Entry) -> Text
 pub(crate) fn append(line: &[u8]) -> Text {
     let room = form::byte(line, 2) as usize;
     if writer::ROOM < room {
-        return text::question();
+        return texts::question();
     }
     lent(room, form::byte(line, 5) as usize, entry_of(line))
 }
@@ -108,7 +108,7 @@ fn shown(answer: EntryAt) -> Text {
 pub(crate) fn read(line: &[u8]) -> Text {
     let n = line.len();
     if n < FIRST {
-        return text::question();
+        return texts::question();
     }
     let longest =
         b"J hh hhhhhhhhhhhhhhhhhhhhhhhhhhhhhhhhhhhhhhhhhhhhhhhhhhhhhhhhhhhhhhhhhhhhhhhhhhhhhhhh";
@@ -117,5 +117,5 @@ pub(crate) fn read(line: &[u8]) -> Text {
         let journal = block::front(&bytes, (n - FIRST) / 2);
         return shown(journal::read(journal, form::byte(line, 2) as usize));
     }
-    text::question()
+    texts::question()
 }

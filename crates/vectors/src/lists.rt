@@ -1,8 +1,8 @@
 // Lists of calls: gathered in the nine bytes of `replay`, then played to a fresh controller for each switch.
 ghost use Rattle.std.specs.Prelude.{◌+◌, ◌≤◌};
 
-use crate::text::Text;
-use crate::{form, text};
+use crate::texts::Text;
+use crate::{form, texts};
 use digits::END;
 
 // The most calls, and their bytes.
@@ -51,7 +51,7 @@ fn gather(
 ) -> List {
     let n = list.count;
     if MOST <= n {
-        text::question().print(rt);
+        texts::question().print(rt);
         return list;
     }
     let at = 9 * n;
@@ -94,7 +94,7 @@ fn take_text(rt: &impl Print, list: List, calls: &mut [u8; ROOM], line: &[u8]) -
             }
         }
     }
-    text::question().print(rt);
+    texts::question().print(rt);
     list
 }
 

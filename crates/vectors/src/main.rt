@@ -8,7 +8,7 @@
 ghost use Rattle.std.specs.Prelude.{◌≤◌, length};
 
 use crate::input::Program;
-use crate::text::Text;
+use crate::texts::Text;
 use session::Session;
 use std::env::{Env, FillError};
 use std::fs;
@@ -24,7 +24,7 @@ mod lists;
 mod pairs;
 mod settings;
 mod station_lines;
-mod text;
+mod texts;
 mod writer;
 
 // The longest word of an argument, and the longest name of a file.
@@ -60,7 +60,7 @@ fn play(rt: &impl Print, word: &[u8], file: &mut impl Read) {
         input::run(rt, Program::HostEnd, file);
         return;
     }
-    text::question().print(rt);
+    texts::question().print(rt);
 }
 
 // A named file, after a line with its name.

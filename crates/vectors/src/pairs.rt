@@ -1,5 +1,5 @@
 // A controller's pair of figures on lines `G`.
-use crate::text::Text;
+use crate::texts::Text;
 use crate::{form, settings};
 use figures::Figures;
 

@@ -1,6 +1,6 @@
 // Bench figures on lines `F` and `U`.
-use crate::text::Text;
-use crate::{form, text, writer};
+use crate::texts::Text;
+use crate::{form, texts, writer};
 use digits::Ident;
 use figures::{Asked, Setting, Units};
 use host::Request;
@@ -137,7 +137,7 @@ pub(crate) fn read_back(line: &[u8]) -> Text {
     let high = form::number(line, 6, 12) as u64;
     let m = high * 4294967296 + form::number(line, 12, 20) as u64;
     if MOST_DIGITS < m {
-        return text::question();
+        return texts::question();
     }
     let sign = form::at(line, 4);
     let speed = is_speed(line);

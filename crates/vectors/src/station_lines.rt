@@ -1,6 +1,6 @@
 // The converter of MD5230D commands on a line `C hh..`.
-use crate::text::Text;
-use crate::{form, text, writer};
+use crate::texts::Text;
+use crate::{form, texts, writer};
 use station::Converted;
 
 // The number, how many values there are, and the lines of all six places.
@@ -22,7 +22,7 @@ fn shown(converted: Converted) -> Text {
 pub(crate) fn answer(line: &[u8]) -> Text {
     let n = line.len();
     if n < 2 {
-        return text::question();
+        return texts::question();
     }
     let longest =
         b"C hhhhhhhhhhhhhhhhhhhhhhhhhhhhhhhhhhhhhhhhhhhhhhhhhhhhhhhhhhhhhhhhhhhhhhhhhhhhhhhhhhhhhhhhhhhhhhhh";
@@ -30,5 +30,5 @@ pub(crate) fn answer(line: &[u8]) -> Text {
         let bytes = form::bytes(line, 2);
         return shown(station::convert(block::front(&bytes, n / 2 - 1)));
     }
-    text::question()
+    texts::question()
 }

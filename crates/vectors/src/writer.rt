@@ -1,8 +1,8 @@
 // The writer on a line `W hh h hh hh h hhhhhhhh ii`.
 ghost use Rattle.std.specs.Prelude.{◌≤◌};
 
-use crate::text::Text;
-use crate::{form, text};
+use crate::texts::Text;
+use crate::{form, texts};
 use digits::Ident;
 use host::{Request, Written};
 use line::command::{Command, Reading};
@@ -125,11 +125,11 @@ fn request_of(line: &[u8], number: u8, given: bool) -> Request {
 pub(crate) fn answer(line: &[u8], given: bool) -> Text {
     let room = form::byte(line, 2) as usize;
     if ROOM < room {
-        return text::question();
+        return texts::question();
     }
     let number = form::byte(line, 7);
     if LAST < number {
-        return text::question();
+        return texts::question();
     }
     lent(room, request_of(line, number, given))
 }

@@ -1,6 +1,6 @@
 -- Digit by digit, the highest first. The measure is the digits left. Assumes nothing.
 use Rattle.std.proofs.Common.{◌≤◌}
-use Rattle.vectors.proofs.text.Text.hex.Given as goal
+use Rattle.vectors.proofs.texts.Text.hex.Given as goal
 
 abbrev pub invariant-loop-left : goal.invariant-loop-left
 invariant-loop-left l = l.left ≤ 16
