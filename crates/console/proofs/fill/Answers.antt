@@ -40,29 +40,36 @@ loop-i-smaller c =
     )
 
 pub loop-i-preserved : goal.loop-i-preserved
-loop-i-preserved c = (
-  omega (arith, c.pass_line-passed.ensures.count_in_bounds.0, part_length c.args.bytes.now c.loop-i.i, c.loop-i.invariant.0),
-  omega (arith, c.pass_line-passed.ensures.length_in_bounds, c.pass_line-passed.auto.out),
-  c.pass_line-passed.auto.out ∙ c.loop-i.invariant.2,
-  c.pass_line-passed.ensures.running_2,
-  filling_more c.args.out.now c.args.bytes.now c.loop-i.session c.loop-i.at c.loop-i.i c.loop-i.out c.args.s c.pass_line-passed.result c.pass_line-passed.new.out
-      (omega (arith, c.loop-i.invariant.2, c.if-out-at-lt-REPLY_ROOM.false)) c.loop-i.invariant.4
-      (subst (Lined c.loop-i.session c.loop-i.at c.loop-i.out c.pass_line-passed.new.out c.pass_line-passed.result) (part_rest c.args.bytes.now c.loop-i.i)
-      (c.pass_line-passed.ensures.runs, (c.pass_line-passed.ensures.runs_2, c.pass_line-passed.ensures.count_value))),
-)
+loop-i-preserved c =
+    let entry = c.args.out.now in
+    let bs = c.args.bytes.now in
+    let l = c.loop-i in
+    let v = c.loop-i.invariant in
+    let p = c.pass_line-passed in (
+      omega (arith, p.ensures.count_in_bounds.0, part_length bs l.i, v.0),
+      omega (arith, p.ensures.length_in_bounds, p.auto.out),
+      p.auto.out ∙ v.2,
+      p.ensures.running_2,
+      filling_more entry bs l.session l.at l.i l.out c.args.s p.result p.new.out
+          (omega (arith, v.2, c.if-out-at-lt-REPLY_ROOM.false)) v.4
+          (subst (Lined l.session l.at l.out p.new.out p.result) (part_rest bs l.i)
+          (p.ensures.runs, (p.ensures.runs_2, p.ensures.count_value))),
+    )
 
 pub returns-after-loop-i : goal.returns-after-loop-i
 returns-after-loop-i c =
+    let l = c.loop-i in
     record {
-      running = c.loop-i.invariant.3;
-      runs = filling_done c.args.out.now c.args.bytes.now c.loop-i.session c.loop-i.at c.loop-i.i c.loop-i.out c.args.s c.loop-i.invariant.4
+      running = l.invariant.3;
+      runs = filling_done c.args.out.now c.args.bytes.now l.session l.at l.i l.out c.args.s l.invariant.4
           (inl c.loop-i-test.false);
     }
 
 pub returns-then-out-at-lt-REPLY_ROOM : goal.returns-then-out-at-lt-REPLY_ROOM
 returns-then-out-at-lt-REPLY_ROOM c =
+    let l = c.loop-i in
     record {
-      running = c.loop-i.invariant.3;
-      runs = filling_done c.args.out.now c.args.bytes.now c.loop-i.session c.loop-i.at c.loop-i.i c.loop-i.out c.args.s c.loop-i.invariant.4
-          (inr (omega (arith, c.loop-i.invariant.2, c.if-out-at-lt-REPLY_ROOM.true)));
+      running = l.invariant.3;
+      runs = filling_done c.args.out.now c.args.bytes.now l.session l.at l.i l.out c.args.s l.invariant.4
+          (inr (omega (arith, l.invariant.2, c.if-out-at-lt-REPLY_ROOM.true)));
     }

@@ -24,26 +24,36 @@ pass_byte-printed-requires c =
 
 pub returns-then-n-bytes : goal.returns-then-n-bytes
 returns-then-n-bytes c =
-    let k : c.gather-gathered.result.count < length c.args.bytes.now = omega (arith, c.if-n-bytes.true) in
-    let a = after_stretch c.args.s c.gather-gathered.result c.args.bytes.now c.requires.running c.gather-gathered.ensures.runs in record {
-      running_2 = c.pass_byte-printed.ensures.running_2;
-      length_in_bounds = c.pass_byte-printed.ensures.length_in_bounds;
-      count_in_bounds = (omega (arith, k), λ (z : 0 < length c.args.bytes.now). omega arith);
-      runs = after_one c.args.s c.gather-gathered.result.session c.pass_byte-printed.result.session c.args.bytes.now c.gather-gathered.result.count k a.1
-          c.pass_byte-printed.ensures.runs;
-      runs_2 = whole_stands c.args.s c.gather-gathered.result c.args.bytes.now c.requires.running c.gather-gathered.ensures.runs c.args.at c.pass_byte-printed.result.length
-          c.pass_byte-printed.new.out c.args.out.now k a.1 c.pass_byte-printed.ensures.runs_2;
-      count_value = line_whole c.args.s c.gather-gathered.result c.args.bytes.now c.requires.running c.gather-gathered.ensures.runs k;
+    let s = c.args.s in
+    let bs = c.args.bytes.now in
+    let f = c.gather-gathered.result in
+    let gathered = c.gather-gathered.ensures.runs in
+    let p = c.pass_byte-printed in
+    let k : f.count < length bs = omega (arith, c.if-n-bytes.true) in
+    let a = after_stretch s f bs c.requires.running gathered in
+    record {
+      running_2 = p.ensures.running_2;
+      length_in_bounds = p.ensures.length_in_bounds;
+      count_in_bounds = (omega (arith, k), λ (z : 0 < length bs). omega arith);
+      runs = after_one s f.session p.result.session bs f.count k a.1 p.ensures.runs;
+      runs_2 = whole_stands s f bs c.requires.running gathered c.args.at p.result.length p.new.out c.args.out.now k a.1
+          p.ensures.runs_2;
+      count_value = line_whole s f bs c.requires.running gathered k;
     }
 
 pub returns : goal.returns
 returns c =
-    let k : length c.args.bytes.now ≤ c.gather-gathered.result.count = c.if-n-bytes.false in
-    let a = after_stretch c.args.s c.gather-gathered.result c.args.bytes.now c.requires.running c.gather-gathered.ensures.runs in record {
+    let s = c.args.s in
+    let bs = c.args.bytes.now in
+    let f = c.gather-gathered.result in
+    let gathered = c.gather-gathered.ensures.runs in
+    let k : length bs ≤ f.count = c.if-n-bytes.false in
+    let a = after_stretch s f bs c.requires.running gathered in
+    record {
       running_2 = c.gather-gathered.ensures.running;
       length_in_bounds = omega (arith, c.requires.at_in_bounds);
-      count_in_bounds = (a.0, λ (z : 0 < length c.args.bytes.now). omega (arith, c.if-n-bytes.false, z));
+      count_in_bounds = (a.0, λ (z : 0 < length bs). omega (arith, k, z));
       runs = a.1;
-      runs_2 = part_stands c.args.s c.gather-gathered.result c.args.bytes.now c.requires.running c.gather-gathered.ensures.runs c.args.at c.args.out.now;
-      count_value = line_part c.args.s c.gather-gathered.result c.args.bytes.now c.requires.running c.gather-gathered.ensures.runs k;
+      runs_2 = part_stands s f bs c.requires.running gathered c.args.at c.args.out.now;
+      count_value = line_part s f bs c.requires.running gathered k;
     }
