@@ -4,116 +4,53 @@
 // the system's calls that read and write.
 #![tactic(auto)]
 
+ghost use Rattle.std.specs.Prelude.{IfOk};
 ghost use Rattle.session.specs.Session.{Running};
 
 use block::REPLY_ROOM;
 use session::Session;
-use std::io::Read;
+use turns::Stopped;
 
-// The buffer for the bytes of a read.
-const ROOM: usize = 4096;
-
-// What is to be done after a read.
-#[derive(Clone, Copy)]
-enum Next {
-    // Read on.
-    Read,
-    // End the last line, which may lack its line feed: the input has ended.
-    Finish,
-    // Stop as it is: the input cannot be read, or the output takes no more.
-    Stop,
-}
-
-// The session after a read, and what is to be done next.
-#[derive(Drop)]
-struct Turn {
-    session: Session,
-    next: Next,
-}
-
-// Reads once, and takes what came.
-fn read_once(rt: &impl Print, input: &mut impl Read, s: Session) -> Turn
+// The bytes of a read.
+fn pass(rt: &impl Print, s: Session, bytes: &[u8]) -> Result<Session, Stopped>
     requires { Running s }
-    ensures { Running result.session }
+    ensures { IfOk result Running }
 {
-    let mut buf = [0u8; ROOM];
-    let Ok(n) = input.read(&mut buf) else {
-        return Turn {
-            session: s,
-            next: Next::Stop,
-        };
-    };
-    if n == 0 {
-        return Turn {
-            session: s,
-            next: Next::Finish,
-        };
-    }
-    let passed = console::pass_all(rt, s, &buf[..n]);
-    let session = passed.session;
+    let passed = console::pass_all(rt, s, bytes);
     if passed.written {
-        return Turn {
-            session,
-            next: Next::Read,
-        };
-    }
-    Turn {
-        session,
-        next: Next::Stop,
+        Ok(passed.session)
+    } else {
+        Err(Stopped)
     }
 }
 
-// Reads until nothing is left to read. A proved loop has to end, and nothing says that the input does: it has a number
-// of turns that no run uses up.
-fn read_all(rt: &impl Print, input: &mut impl Read, s: Session) -> Turn
-    requires { Running s }
-    ensures { Running result.session }
-{
-    let mut session = s;
-    for _ in 0..u64::MAX {
-        let turn = read_once(rt, input, session);
-        let next = turn.next;
-        match next {
-            Next::Read => {
-                let read = turn.session;
-                session = read;
-            }
-            Next::Finish => {
-                return turn;
-            }
-            Next::Stop => {
-                return turn;
-            }
-        }
-    }
-    Turn {
-        session,
-        next: Next::Stop,
-    }
-}
-
-// The end of the input.
-fn finish(rt: &impl Print, s: Session) -> bool
+// The end of the input, whose last line may lack its line feed.
+fn finish(rt: &impl Print, s: Session) -> Result<(), Stopped>
     requires { Running s }
 {
     let mut buf = [0u8; REPLY_ROOM];
     let taken = s.finish(&mut buf);
-    rt.write_all(block::front(&buf, taken.length)).is_ok()
+    rt.write_all(block::front(&buf, taken.length))?;
+    Ok(())
 }
 
-// Power-on with switch 0 and the host's first line, the whole input, and its end. The exit status is always 0: a word
-// on standard error says that it stopped before the end.
+// Power-on with switch 0 and the host's first line, the whole input, and its end.
+fn run(rt: &HostRuntime) -> Result<(), Stopped> {
+    let end = turns::read_all(
+        &mut rt.stdin(),
+        Session::new(),
+        |s: Session, bytes: &[u8]|
+            requires { Running s }
+            ensures { IfOk result Running }
+        { pass(rt, s, bytes) },
+    )?;
+    finish(rt, end)
+}
+
+// The exit status is always 0: a word on standard error says that it stopped before the end.
+// Each program has a main of its own, for its name.
 fn main(rt: HostRuntime) {
-    let start = Session::new();
-    let turn = read_all(&rt, &mut rt.stdin(), start);
-    let session = turn.session;
-    let next = turn.next;
-    let done = match next {
-        Next::Finish => finish(&rt, session),
-        Next::Read => false,
-        Next::Stop => false,
-    };
-    if !done {
+    if run(&rt).is_err() {
         let _ = eprintln!(rt; "bench: stopped, input or output failed");
     }
 }

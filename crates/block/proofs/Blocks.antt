@@ -1,5 +1,6 @@
 -- Laws of a reply block and of a row of blocks: their lengths, one block more, and the stores that write one.
 -- Assumes nothing.
+use Rattle.std.proofs.Common.{Option, None, Some}
 use Prim.Native.Nat.{ℕ, zero, suc, ◌+◌, ◌*◌, ◌≤◌}
 use mathlib.Core.List.{List, [], ◌∷◌, ◌++◌}
 use mathlib.Core.Path.{◌≡◌, refl, ap, ◌∙◌}
@@ -9,25 +10,23 @@ use lib.Dec.{lit≤}
 use lib.ListN.{length, get_or, length-append}
 use lib.Seq.{sets}
 use Rattle.digits.specs.Digits.{capital_of, six_of}
-use Rattle.digits.specs.declared.Ident.{Ident}
-use Rattle.digits.specs.declared.Ident.TheVariants.{Absent, Given}
 use Rattle.block.specs.declared.Block.{Block}
 use Rattle.block.specs.Block.{ident_chars, length_with, block_of, row_block, row_of, over}
 use Rattle.block.proofs.Buffers.{stores}
 
 -- ---- the length of a block
 
-pub length_least : (ident : Ident) → 9 ≤ length_with ident
-length_least Absent = lit≤ tt
-length_least (Given c) = lit≤ tt
+pub length_least : (ident : Option ℕ) → 9 ≤ length_with ident
+length_least None = lit≤ tt
+length_least (Some c) = lit≤ tt
 
-pub length_most : (ident : Ident) → length_with ident ≤ 10
-length_most Absent = lit≤ tt
-length_most (Given c) = lit≤ tt
+pub length_most : (ident : Option ℕ) → length_with ident ≤ 10
+length_most None = lit≤ tt
+length_most (Some c) = lit≤ tt
 
-length_end : (ident : Ident) → 8 + length (ident_chars ident ++ (13 ∷ [])) ≡ length_with ident
-length_end Absent = refl
-length_end (Given c) = refl
+length_end : (ident : Option ℕ) → 8 + length (ident_chars ident ++ (13 ∷ [])) ≡ length_with ident
+length_end None = refl
+length_end (Some c) = refl
 
 pub length_block : (b : Block) → length (block_of b) ≡ length_with b.ident
 unfolding block_of six_of
@@ -39,15 +38,15 @@ block_least b = omega (arith, length_block b, length_least b.ident)
 pub block_most : (b : Block) → length (block_of b) ≤ 10
 block_most b = omega (arith, length_block b, length_most b.ident)
 
-pub block_absent : (b : Block) → b.ident ≡ Absent → length (block_of b) ≡ 9
+pub block_absent : (b : Block) → b.ident ≡ None → length (block_of b) ≡ 9
 block_absent b e = length_block b ∙ ap length_with e
 
-pub block_given : (b : Block) (c : ℕ) → b.ident ≡ Given c → length (block_of b) ≡ 10
+pub block_given : (b : Block) (c : ℕ) → b.ident ≡ Some c → length (block_of b) ≡ 10
 block_given b c e = length_block b ∙ ap length_with e
 
 -- ---- rows
 
-module _ (letters numbers : List ℕ) (switch : ℕ) (ident : Ident) where
+module _ (letters numbers : List ℕ) (switch : ℕ) (ident : Option ℕ) where
   pub row_none : row_of 0 letters numbers switch ident ≡ []
   unfolding row_of
   row_none = refl
@@ -79,10 +78,10 @@ stored letter s d end =
     letter ∷ s ∷ get_or d 0 0 ∷ get_or d 1 0 ∷ get_or d 2 0 ∷ get_or d 3 0 ∷ get_or d 4 0 ∷ get_or d 5 0 ∷ end
 
 module _ (b : Block) (s : ℕ) (d : List ℕ) (p : s ≡ capital_of b.switch) (q : d ≡ six_of b.number) where
-  stored_is : (ident : Ident) → b.ident ≡ ident → stored b.letter s d (ident_chars ident ++ (13 ∷ [])) ≡ block_of b
+  stored_is : (ident : Option ℕ) → b.ident ≡ ident → stored b.letter s d (ident_chars ident ++ (13 ∷ [])) ≡ block_of b
   unfolding block_of six_of
   stored_is ident e = rw (← e, p, q)
 
-  pub stored_over : (ident : Ident) (l : List ℕ) → b.ident ≡ ident → length (block_of b) ≤ length l
+  pub stored_over : (ident : Option ℕ) (l : List ℕ) → b.ident ≡ ident → length (block_of b) ≤ length l
       → sets l 0 (stored b.letter s d (ident_chars ident ++ (13 ∷ []))) ≡ over (block_of b) l
   stored_over ident l e h = rw (stored_is ident e) (stores (block_of b) l h)

@@ -1,4 +1,5 @@
 -- The loop that writes a row: after k turns the first k blocks stand over the front of the buffer. Assumes nothing.
+use Rattle.std.proofs.Common.{Option}
 use Prim.Native.Nat.{ℕ, ◌+◌, ◌*◌, ◌≤◌, ◌<◌}
 use mathlib.Core.List.{List}
 use mathlib.Core.Path.{◌≡◌, sym, ap, ◌∙◌}
@@ -6,20 +7,19 @@ use native.Mathlib.Nat.{mul-le-mul_right}
 use native.Mathlib.Omega.{arith}
 use lib.Dec.{lit≤}
 use lib.ListN.{length, length-append}
-use Rattle.digits.specs.declared.Ident.{Ident}
 use Rattle.block.specs.Block.{length_with, block_of, row_block, row_of, over, put, laid, laid_length}
 use Rattle.block.proofs.Blocks.{length_block, length_most, length_row, row_none, row_next}
 use Rattle.block.proofs.Buffers.{over_nil, length_over, put_over, laid_over, laid_over_length}
 
 -- buf is d with k blocks over its front, at bytes long; all twelve have room.
-pub record Written (letters numbers : List ℕ) (switch : ℕ) (ident : Ident) (d : List ℕ) (k at : ℕ) (buf : List ℕ)
+pub record Written (letters numbers : List ℕ) (switch : ℕ) (ident : Option ℕ) (d : List ℕ) (k at : ℕ) (buf : List ℕ)
     : Type 0 where
   pub few : k ≤ 12
   pub room : 12 * length_with ident ≤ length d
   pub long : at ≡ length (row_of k letters numbers switch ident)
   pub bytes : buf ≡ over (row_of k letters numbers switch ident) d
 
-module _ {letters numbers : List ℕ} {switch : ℕ} {ident : Ident} {d : List ℕ} where
+module _ {letters numbers : List ℕ} {switch : ℕ} {ident : Option ℕ} {d : List ℕ} where
   pub none_written : 12 * length_with ident ≤ length d → Written letters numbers switch ident d 0 0 d
   none_written h = record {
     few = lit≤ tt;

@@ -23,6 +23,7 @@ struct Printed {
 }
 
 // The session after some bytes, where what they print ends in the buffer, and how many they are.
+// Lengths and no slices: the bytes stand in the lent buffer.
 #[derive(Drop)]
 struct Line {
     session: Session,
@@ -30,23 +31,20 @@ struct Line {
     count: usize,
 }
 
-// The session after the bytes of a read, and whether the output took all that they print.
+// The session after the bytes of a read, and whether the output took all that they print. No Result: the session is
+// promised either way.
 #[derive(Drop)]
 pub struct Passed {
     pub session: Session,
     pub written: bool,
 }
 
-// Writes a text, and answers whether the output took it. Once it has failed nothing more is written, so that what was
-// written is a first part of what is printed. The session and the bytes are there for the premise alone, that the text
-// is what they print: the contract of the call that writes does not say what was written.
-fn print(rt: &impl Print, written: bool, s: Session, bytes: &[u8], text: &[u8]) -> bool
+// Writes a text, and answers whether the output took it. The session and the bytes are there for the premise alone, that
+// the text is what they print: the contract of the call that writes does not say what was written.
+fn print(rt: &impl Print, s: Session, bytes: &[u8], text: &[u8]) -> bool
     requires running { Running s }
     requires runs { Runs s (λ x. text.now ≡ printed_by x bytes.now) }
 {
-    if !written {
-        return false;
-    }
     rt.write_all(text).is_ok()
 }
 
@@ -60,9 +58,8 @@ fn pass_byte(s: Session, out: &mut [u8], at: usize, b: u8) -> Printed
     ensures runs_2 { Runs s (λ x. Stands at result.length (taken x b).printed out.new out.old) }
 {
     let taken = s.take(&mut out[at..], b);
-    let session = taken.session;
     Printed {
-        session,
+        session: taken.session,
         length: at + taken.length,
     }
 }
@@ -81,27 +78,25 @@ fn pass_line(s: Session, out: &mut [u8], at: usize, bytes: &[u8]) -> Line
     ensures count_value { result.count ≡ line_length bytes.now }
 {
     let gathered = s.gather(bytes);
-    let session = gathered.session;
     let n = gathered.count;
     if n < bytes.len() {
-        let count = n + 1;
-        let printed = pass_byte(session, out, at, bytes[n]);
-        let next = printed.session;
+        let printed = pass_byte(gathered.session, out, at, bytes[n]);
         return Line {
-            session: next,
+            session: printed.session,
             length: printed.length,
-            count,
+            count: n + 1,
         };
     }
     Line {
-        session,
+        session: gathered.session,
         length: at,
         count: n,
     }
 }
 
 // As many bytes, line by line, as `out` has room for. What they print stands at the front of `out`, so that what the
-// bytes of a read print can be written at once.
+// bytes of a read print can be written at once. How long a line is shows when it is passed, so that no iterator gives
+// the steps.
 fn fill(s: Session, out: &mut [u8], bytes: &[u8]) -> Line
     requires { Running s }
     ensures running { Running result.session }
@@ -110,13 +105,9 @@ fn fill(s: Session, out: &mut [u8], bytes: &[u8]) -> Line
     let mut session = s;
     let mut at = 0;
     let mut i = 0;
-    while i < bytes.len() {
-        if out.len() - at < REPLY_ROOM {
-            break;
-        }
+    while i < bytes.len() && REPLY_ROOM <= out.len() - at {
         let passed = pass_line(session, out, at, &bytes[i..]);
-        let next = passed.session;
-        session = next;
+        session = passed.session;
         at = passed.length;
         i += passed.count;
     }
@@ -127,7 +118,9 @@ fn fill(s: Session, out: &mut [u8], bytes: &[u8]) -> Line
     }
 }
 
-// The bytes of a read. What they print is written at once; in parts only where it is longer than the buffer.
+// The bytes of a read. What they print is written at once; in parts only where it is longer than the buffer. Once the
+// output has failed nothing more is written, so that what was written is a first part of what is printed. How many bytes
+// a part takes shows when it is filled, so that no iterator gives the steps.
 pub fn pass_all(rt: &impl Print, s: Session, bytes: &[u8]) -> Passed
     requires { Running s }
     ensures running { Running result.session }
@@ -141,9 +134,8 @@ pub fn pass_all(rt: &impl Print, s: Session, bytes: &[u8]) -> Passed
         let filled = fill(session, &mut out, &bytes[i..]);
         let end = i + filled.count;
         let text = block::front(&out, filled.length);
-        written = print(rt, written, session, &bytes[i..end], text);
-        let next = filled.session;
-        session = next;
+        written = written && print(rt, session, &bytes[i..end], text);
+        session = filled.session;
         i = end;
     }
     Passed { session, written }

@@ -1,5 +1,7 @@
 -- Lines: what they do to a held machine is the held machine's step, and so are their numbers and replies. Assumes
 -- nothing.
+use Rattle.std.proofs.Common.{Option}
+use Rattle.std.specs.Prelude.{is_some, unwrap_or}
 use Prim.Native.Nat.{ℕ, ◌+◌, ◌-◌, ◌%◌, ◌<◌}
 use mathlib.Core.Bool.{Bool, true, false, cond, ◌&&◌, ◌||◌, or-true, or-false}
 use mathlib.Core.Path.{◌≡◌, refl, sym, ap, ◌∙◌}
@@ -12,7 +14,6 @@ use lib.ListN.{set}
 use Rattle.laws.specs.Axes.{each}
 use Rattle.laws.proofs.Five.{five}
 use Rattle.laws.proofs.Pick.{by_lt, by_eq}
-use Rattle.digits.specs.declared.Ident.{Ident}
 use Rattle.line.specs.declared.command.Command.{Command}
 use Rattle.line.specs.declared.command.Command.TheVariants as C
 use Rattle.line.specs.Codes.{is_w}
@@ -32,7 +33,7 @@ use Rattle.machine.specs.Replies as machine
 use Rattle.machine.specs.Replies.{told_of}
 use Rattle.machine.proofs.FitLaws.{Fits}
 use Rattle.controller.specs.declared.state.Controller.{Controller}
-use Rattle.controller.specs.Held.{held, held_hot, held_plan, held_settings, is_given, character_of}
+use Rattle.controller.specs.Held.{held, held_hot, held_plan, held_settings}
 use Rattle.controller.specs.Inner.Parts.{with_master, with_flag, with_hot, with_next, blocked_in}
 use Rattle.controller.specs.Inner.Start.{begun_of, start_number_of}
 use Rattle.controller.specs.Inner.Carry.{carry_number_of}
@@ -104,12 +105,12 @@ does_is m (C.Order code) f h =
 does_is m (C.Outputs v) f h = refl
 does_is m (C.Read r) f h = refl
 
-pub awaits_is : (m : Machine) (c : Command) (silent : Bool) (ident : Ident)
+pub awaits_is : (m : Machine) (c : Command) (silent : Bool) (ident : Option ℕ)
     → awaits_of (held m) c silent ident ≡ held (awaits m c silent ident)
 awaits_is m c silent ident = when (is_w c)
   where
     when : (t : Bool)
-        → cond t (awaits_given (held m) (span_of silent) (character_of ident) (is_given ident)) (held m)
+        → cond t (awaits_given (held m) (span_of silent) (unwrap_or ident 0) (is_some ident)) (held m)
         ≡ held (with_settle m (cond t (record { left = cond silent 0 2500; ident = ident }) m.settle))
     when true = refl
     when false = refl
@@ -178,7 +179,7 @@ status_is m = when m.move.moving
     when true = refl
     when false = refl
 
-pub reply_is : (m : Machine) (c : Command) (digits : ℕ) (ident : Ident) → Fits m → CommandFits c
+pub reply_is : (m : Machine) (c : Command) (digits : ℕ) (ident : Option ℕ) → Fits m → CommandFits c
     → reply_of (told_by (readings_of (held m))) c digits ident ≡ machine.reply_to m c digits ident
 reply_is m c digits ident f h =
     reply_same (told_by (readings_of (held m))) (told_of m) refl travels positions (status_is m) refl c

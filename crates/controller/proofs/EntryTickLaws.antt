@@ -1,4 +1,6 @@
 -- A tick, joined from what its parts answer: the held machine's step. Assumes nothing.
+use Rattle.std.proofs.Common.{Option, None, Some}
+use Rattle.std.specs.Prelude.{is_some, unwrap_or}
 use Prim.Native.Nat.{ℕ, ◌≤◌}
 use mathlib.Core.Bool.{Bool, true, false, cond}
 use mathlib.Core.List.{List, []}
@@ -7,8 +9,6 @@ use native.Mathlib.Omega.{arith}
 use borrow.Author.Tests.{ltb-false}
 use lib.Dec.{ltb, eqb}
 use lib.ListN.{length}
-use Rattle.digits.specs.declared.Ident.{Ident}
-use Rattle.digits.specs.declared.Ident.TheVariants.{Absent, Given}
 use Rattle.block.specs.Block.{over}
 use Rattle.block.proofs.Buffers.{over_nil}
 use Rattle.reply.specs.Reply.{inputs_of}
@@ -33,7 +33,7 @@ use Rattle.controller.specs.declared.state.TickAnswer.{TickAnswer}
 use Rattle.controller.specs.declared.state.Hot.{Hot}
 use Rattle.controller.specs.declared.motion.Ran.{Ran}
 use Rattle.controller.specs.declared.dwell.Waited.{Waited}
-use Rattle.controller.specs.Held.{held, held_hot, held_cold, held_plan, held_tick, is_given, character_of}
+use Rattle.controller.specs.Held.{held, held_hot, held_cold, held_plan, held_tick}
 use Rattle.controller.specs.Settle.{refused_with}
 use Rattle.controller.specs.Inner.Motion.{runs_of, held_ran, RunFits}
 use Rattle.controller.specs.Inner.Entry.{told_of, TravelsFit}
@@ -53,9 +53,9 @@ by_turned P false true e p = absurd (omega (arith, e))
 by_turned P false false e p = p
 
 -- An identification is the one that it is held as.
-ident_back : (x : Ident) → ident_of (is_given x) (character_of x) ≡ x
-ident_back Absent = refl
-ident_back (Given c) = refl
+ident_back : (x : Option ℕ) → ident_of (is_some x) (unwrap_or x 0) ≡ x
+ident_back None = refl
+ident_back (Some c) = refl
 
 -- Its buffer has room.
 pub tick_roomy : (n w : ℕ) → tick_number_of n w ≡ 0 → 120 ≤ n
@@ -119,7 +119,7 @@ module _ (m : Machine) (w : ℕ) (d : List ℕ) (f : Fits m) (self : Controller)
   block_is =
       (λ i. tell_reply (sym e i).hot.pause.block (sym e i).cold.switch w (sym e i).cold.named
       (sym e i).cold.ident)
-      ∙ ap (λ (x : Ident). cond (eqb m.settle.left 1) (inputs_of m.switch w x) []) (ident_back m.settle.ident)
+      ∙ ap (λ (x : Option ℕ). cond (eqb m.settle.left 1) (inputs_of m.switch w x) []) (ident_back m.settle.ident)
 
   -- The answer, by what the parts of the tick answer.
   abbrev tick_of : Waited → Ran → ℕ → Entry → ℕ → TickAnswer

@@ -1,5 +1,10 @@
 -- A byte's reply and a tick's block have room in the lent buffer, so that the front part of the length that is answered
 -- is that reply or block. Assumes nothing.
+use Rattle.line.specs.declared.Accepted.{Accepted}
+use Rattle.line.specs.declared.Refusal.{Refusal}
+use Rattle.receiver.specs.declared.Line.{Line}
+use Rattle.line.specs.Line.{refusal_number}
+use Rattle.std.proofs.Common.{Option, Some, None, Result, Ok, Err}
 use Prim.Native.Nat.{ℕ, ◌≤◌}
 use native.Mathlib.Omega.{arith}
 use mathlib.Core.Bool.{Bool}
@@ -9,13 +14,8 @@ use borrow.Author.Tests.{ltb-false}
 use lib.Dec.{ltb, eqb}
 use lib.ListN.{length}
 use Rattle.laws.proofs.Pick.{by_bool}
-use Rattle.digits.specs.declared.Ident.{Ident}
 use Rattle.block.specs.Block.{front_of}
 use Rattle.block.proofs.Buffers.{front_over}
-use Rattle.line.specs.declared.Judged.{Judged}
-use Rattle.line.specs.declared.Judged.TheVariants.{Accepted, Refused}
-use Rattle.receiver.specs.declared.Heard.{Heard}
-use Rattle.receiver.specs.declared.Heard.TheVariants.{Character, Line}
 use Rattle.receiver.specs.Receiver.{receive}
 use Rattle.reply.proofs.Replies.{reply_most, refusal_most, inputs_most}
 use Rattle.machine.specs.State.{Machine}
@@ -42,19 +42,19 @@ silent_most silent reply h = by_bool (λ (l : List ℕ). length l ≤ 120) silen
 abbrev Most : Machine → ℕ → Outcome → Type 0
 Most m b o = length (answered m b o).reply ≤ 120
 
-refused_most : (m : Machine) (b n : ℕ) (silent : Bool) (ident : Ident) → Most m b (refused n silent ident)
+refused_most : (m : Machine) (b n : ℕ) (silent : Bool) (ident : Option ℕ) → Most m b (refused n silent ident)
 refused_most m b n silent ident = silent_most silent _ (refusal_most m.switch n ident)
 
-decided_most : (m : Machine) (b : ℕ) (silent : Bool) (ident : Ident) (j : Judged) → Most m b (decided m silent ident j)
-decided_most m b silent ident (Refused n) = refused_most m b n silent ident
-decided_most m b silent ident (Accepted c digits) =
-    by_bool (Most m b) (eqb (number m c) 0) _ _
-    (λ e. silent_most silent _ (reply_most (told_of m) c digits ident))
-    (λ e. refused_most m b (number m c) silent ident)
+decided_most : (m : Machine) (b : ℕ) (silent : Bool) (ident : Option ℕ) (j : Result Accepted Refusal) → Most m b (decided m silent ident j)
+decided_most m b silent ident (Err r) = refused_most m b (refusal_number r) silent ident
+decided_most m b silent ident (Ok a) =
+    by_bool (Most m b) (eqb (number m a.command) 0) _ _
+    (λ e. silent_most silent _ (reply_most (told_of m) a.command a.digits ident))
+    (λ e. refused_most m b (number m a.command) silent ident)
 
-heard_most : (m : Machine) (b : ℕ) (h : Heard) → Most m b (outcome_of m h)
-heard_most m b Character = omega arith
-heard_most m b (Line silent ident j) = decided_most m b silent ident j
+heard_most : (m : Machine) (b : ℕ) (h : Option Line) → Most m b (outcome_of m h)
+heard_most m b None = omega arith
+heard_most m b (Some line) = decided_most m b line.silent line.ident line.judged
 
 -- A buffer under 120 bytes gets none.
 pub reply_room : (m : Machine) (b : ℕ) (d : List ℕ) → length (byte_step m b d).reply ≤ length d

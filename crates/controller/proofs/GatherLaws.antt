@@ -1,5 +1,6 @@
 -- The bytes of a stretch before its first 0D: each is a character that joins the line and ends none, with neither reply
 -- nor number, and all together join it at once; and a controller without such characters. Assumes nothing.
+use Rattle.std.proofs.Common.{None}
 use Prim.Native.Nat.{ℕ}
 use mathlib.Core.Bool.{Bool, false, cond}
 use mathlib.Core.List.{List, [], ◌∷◌, ◌++◌, append-nil}
@@ -10,7 +11,6 @@ use Rattle.laws.proofs.Pick.{by_bool}
 use Rattle.receiver.specs.declared.Gathered as line
 use Rattle.receiver.specs.declared.Receiver.{Receiver}
 use Rattle.receiver.specs.Receiver as receiver
-use Rattle.receiver.specs.declared.Heard.TheVariants.{Character}
 use Rattle.receiver.specs.Receiver.{Receipt, heard_line, before, before_end}
 use Rattle.machine.specs.State.{Machine, with_line}
 use Rattle.machine.specs.Steps.{ByteAnswer, byte_step, answered, gathered, outcome_of, outcome}
@@ -29,10 +29,10 @@ pub character : (m : Machine) (b : ℕ) → eqb b 13 ≡ false
 character m b e =
     ap (λ (t : Bool). answered m b (outcome_of m
     (cond {A = Receipt} t (record { line = []; heard = heard_line m.line })
-    (record { line = m.line ++ (b ∷ []); heard = Character })).heard)) e
+    (record { line = m.line ++ (b ∷ []); heard = None })).heard)) e
     ∙ ap (λ (t : Bool). record {
       machine = with_line m (cond {A = Receipt} t (record { line = []; heard = heard_line m.line })
-          (record { line = m.line ++ (b ∷ []); heard = Character })).line;
+          (record { line = m.line ++ (b ∷ []); heard = None })).line;
       reply = [];
       number = 0;
     }) e
@@ -42,7 +42,7 @@ pub gathers : (m : Machine) (b : ℕ) → eqb b 13 ≡ false → outcome m b buf
 gathers m b e =
     ap (λ (t : Bool). outcome_of m
     (cond {A = Receipt} t (record { line = []; heard = heard_line m.line })
-    (record { line = m.line ++ (b ∷ []); heard = Character })).heard) e
+    (record { line = m.line ++ (b ∷ []); heard = None })).heard) e
 
 -- What no character alters, no stretch alters.
 pub by_characters : {A : Type 0} (f : List Call → A)

@@ -1,6 +1,5 @@
 mod CalmLaws
 mod AxisLaws
-mod RampLaws
 mod StepLaws
 mod LineEndLaws
 mod SettleLaws
@@ -9,7 +8,6 @@ pub mod StartLaws
 pub mod CarryLaws
 pub mod PulseLaws
 mod NeedLaws
-pub mod SignLaws
 pub mod ToldLaws
 pub mod StageLaws
 pub mod ByteLaws

@@ -1,4 +1,5 @@
 -- The block of a W line as a tick writes it, over plain values. Assumes nothing.
+use Rattle.std.proofs.Common.{Option}
 use Prim.Native.Nat.{ℕ, ◌≤◌}
 use mathlib.Core.Bool.{Bool}
 use mathlib.Core.List.{List}
@@ -6,14 +7,13 @@ use mathlib.Core.Path.{◌≡◌, refl, sym, ap, ◌∙◌}
 use native.Mathlib.Omega.{arith}
 use borrow.Author.Tests.{eq-eqb, ne_eqb}
 use lib.ListN.{length}
-use Rattle.digits.specs.declared.Ident.{Ident}
 use Rattle.block.specs.Block.{over, laid, laid_length}
 use Rattle.block.proofs.Buffers.{over_nil}
 use Rattle.reply.specs.Reply.{inputs_of}
 use Rattle.reply.proofs.Replies.{inputs_most, inputs_over, inputs_length}
 use Rattle.controller.specs.Inner.Settle.{ident_of, tell_reply}
 
-module _ (switch word : ℕ) (named : Bool) (held : ℕ) (ident : Ident) (d : List ℕ) (e : ident ≡ ident_of named held) where
+module _ (switch word : ℕ) (named : Bool) (held : ℕ) (ident : Option ℕ) (d : List ℕ) (e : ident ≡ ident_of named held) where
   -- Its length fits a byte.
   pub short_block : (n : ℕ) → 120 ≤ length d → n ≡ laid_length 0 (inputs_of switch word ident) d → n ≤ 10
   short_block n h p =
@@ -30,8 +30,8 @@ module _ (switch word : ℕ) (named : Bool) (held : ℕ) (ident : Ident) (d : Li
       → n ≡ laid_length 0 (inputs_of switch word ident) d → x ≡ laid 0 (inputs_of switch word ident) d → Tells block n x
   told_due block n x h b p q =
       rw (eq-eqb block 1 b) (
-        p ∙ (inputs_length switch word ident d h ∙ ap (λ (x : Ident). length (inputs_of switch word x)) e),
-        q ∙ (inputs_over switch word ident d h ∙ ap (λ (x : Ident). over (inputs_of switch word x) d) e),
+        p ∙ (inputs_length switch word ident d h ∙ ap (λ (x : Option ℕ). length (inputs_of switch word x)) e),
+        q ∙ (inputs_over switch word ident d h ∙ ap (λ (x : Option ℕ). over (inputs_of switch word x) d) e),
       )
 
 pub told_none : (switch word : ℕ) (named : Bool) (held : ℕ) (d : List ℕ) (block : ℕ) → (block ≡ 1 → ⊥)

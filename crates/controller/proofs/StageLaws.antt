@@ -1,5 +1,6 @@
 -- A tick stage after stage, done to what is held of a machine: each stage under the settings that the tick began with,
 -- what its code needs there, and the answer. Assumes nothing.
+use Rattle.std.specs.Prelude.{is_some, unwrap_or}
 use Prim.Native.Nat.{ℕ, ◌+◌}
 use mathlib.Core.Bool.{not, ◌&&◌}
 use mathlib.Core.List.{List}
@@ -18,7 +19,7 @@ use Rattle.machine.proofs.FitLaws.{Fits, fits_takes, fits_looks, fits_stops}
 use Rattle.controller.specs.declared.state.Cold.{Cold}
 use Rattle.controller.specs.declared.state.TickAnswer.{TickAnswer}
 use Rattle.controller.specs.declared.state.Settings.{Settings}
-use Rattle.controller.specs.Held.{held_settings, held_plan, held_hot, held_cold, held_tick, is_given, character_of}
+use Rattle.controller.specs.Held.{held_settings, held_plan, held_hot, held_cold, held_tick}
 use Rattle.controller.specs.Inner.Motion.{runs_of, held_ran, RunFits}
 use Rattle.controller.specs.Inner.Words.{rest_of}
 use Rattle.controller.specs.Inner.Watch.{stops_of}
@@ -70,8 +71,8 @@ cold_runs m =
       next = held_plan (k.next i);
       line = holding (k.line i);
       switch = k.switch i;
-      ident = character_of (k.settle i).ident;
-      named = is_given (k.settle i).ident;
+      ident = unwrap_or (k.settle i).ident 0;
+      named = is_some (k.settle i).ident;
     }
 
 -- ---- The stages

@@ -2,11 +2,9 @@
 -- added, the move's ticks in two halves, and with its master whether a distance line was accepted since it began;
 -- beside each travel stands the remainder of m × d / M; M, m and the parts of the output words are kept ready, and of
 -- the general outputs only their part of a word.
-use Rattle.std.specs.Prelude.{ℕ, ◌+◌, ◌*◌, ◌/◌, ◌%◌, Bool, true, false, List, [], ℤ, length}
+use Rattle.std.specs.Prelude.{ℕ, ◌+◌, ◌*◌, ◌/◌, ◌%◌, Bool, true, false, List, [], ℤ, length, is_some, unwrap_or}
 use Rattle.laws.specs.Axes.{each}
 use Rattle.laws.specs.Bits.{weight}
-use Rattle.digits.specs.declared.Ident.{Ident}
-use Rattle.digits.specs.declared.Ident.TheVariants.{Absent, Given}
 use Rattle.outputs.specs.Outputs.{general_of, rest_of, fire_of, still_of}
 use Rattle.receiver.specs.Receiver.{holding, before_end}
 use Rattle.reply.specs.declared.readings.Travel.{Travel}
@@ -124,24 +122,16 @@ held_hot m = record {
   flags = held_flags m.flags;
 }
 
--- Whether there is an identification, and its character, 0 without one.
-abbrev pub is_given : Ident → Bool
-is_given Absent = false
-is_given (Given c) = true
-
-abbrev pub character_of : Ident → ℕ
-character_of Absent = 0
-character_of (Given c) = c
-
--- What only bytes alter. A half-received line is held as the receiver holds it.
+-- What only bytes alter. A half-received line is held as the receiver holds it; an identification by whether there is
+-- one, and its character, 0 without one.
 abbrev pub held_cold : Machine → Cold
 held_cold m = record {
   settings = held_settings m.settings;
   next = held_plan m.next;
   line = holding m.line;
   switch = m.switch;
-  ident = character_of m.settle.ident;
-  named = is_given m.settle.ident;
+  ident = unwrap_or m.settle.ident 0;
+  named = is_some m.settle.ident;
 }
 
 -- The controller that holds a machine.

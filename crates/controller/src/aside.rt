@@ -13,10 +13,9 @@ use receiver::Receiver;
 pub(crate) fn with_line(c: Controller, line: Receiver) -> Controller
     ensures { result ≡ with_line_of c line }
 {
-    let hot = c.hot;
     let mut cold = c.cold;
     cold.line = line;
-    Controller { hot, cold }
+    Controller { hot: c.hot, cold }
 }
 
 impl Controller {

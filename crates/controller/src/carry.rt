@@ -22,19 +22,17 @@ pub(crate) fn replanned(master: u16) -> u16
     ensures { result ≡ replanned_of master }
 {
     if master < REPLANNED {
-        return master + REPLANNED;
+        master + REPLANNED
+    } else {
+        master
     }
-    master
 }
 
 // Whether there is a move to carry on: at rest it is short of M where a stop ended it so, and only there.
 fn can_carry_on(run: Run) -> bool
     ensures { result ≡ can_carry_on_of run }
 {
-    if run.gone < run.length {
-        return run.master < REPLANNED;
-    }
-    false
+    run.gone < run.length && run.master < REPLANNED
 }
 
 // What an axis's travel leaves of its distance.
@@ -51,43 +49,44 @@ fn open_plan(plan: Plan, counters: Counters) -> Plan
     requires { OpenFits plan counters }
     ensures { result ≡ open_plan_of plan counters }
 {
-    let first = open_at(plan, counters, 0);
-    let second = open_at(plan, counters, 1);
-    let third = open_at(plan, counters, 2);
-    let fourth = open_at(plan, counters, 3);
-    let fifth = open_at(plan, counters, 4);
     let minus = plan.minus;
     Plan {
-        distances: [first, second, third, fourth, fifth],
+        distances: [
+            open_at(plan, counters, 0),
+            open_at(plan, counters, 1),
+            open_at(plan, counters, 2),
+            open_at(plan, counters, 3),
+            open_at(plan, counters, 4),
+        ],
         minus,
     }
 }
 
-// The number that turns a carry-on away behind 11, or 0.
+// The number that turns a carry-on away behind 11, or 0: as a byte's answer holds it.
 pub(crate) fn carry_number(settings: Settings, hot: Hot) -> u8
     requires { CarryFits hot }
     ensures { result ≡ carry_number_of settings hot }
 {
-    let run = hot.run;
-    if !can_carry_on(run) {
+    if !can_carry_on(hot.run) {
         return 26;
     }
-    let flags = hot.flags;
-    if flags.emergency {
+    if hot.flags.emergency {
         return 12;
     }
     if inputs::sensor(settings.low, settings.high, hot.inputs) {
         return 13;
     }
-    let plan = hot.plan;
-    let counters = hot.counters;
-    let open = open_plan(plan, counters);
-    let distances = open.distances;
-    let minus = open.minus;
-    if inputs::blocked(settings.low, settings.high, hot.inputs, distances, minus) {
+    let open = open_plan(hot.plan, hot.counters);
+    if inputs::blocked(
+        settings.low,
+        settings.high,
+        hot.inputs,
+        open.distances,
+        open.minus,
+    ) {
         return 16;
     }
-    if start::some_leave(open, counters) {
+    if start::some_leave(open, hot.counters) {
         return 17;
     }
     0

@@ -1,12 +1,13 @@
 // The dwell counted down, and a start that waits for its end (paper 01, "Stops").
-ghost use Rattle.std.specs.Prelude.{◌≡◌, ◌<◌, ◌-◌};
+ghost use Rattle.std.specs.Prelude.{◌≡◌, ◌<◌};
 ghost use Rattle.controller.specs.Inner.Start.{StartFits};
 ghost use Rattle.controller.specs.Inner.Dwell.{failed_of, due_of, is_due_of, waits_of, WaitFits};
 
+use crate::start;
 use crate::state::{Hot, Plan, Settings};
-use crate::{start, state};
 
 // Hot after the dwell, with the number of a waiting start that failed, or 0.
+// A number and no Result: see numbers.rt.
 #[derive(Drop)]
 pub struct Waited {
     pub hot: Hot,
@@ -17,9 +18,8 @@ pub struct Waited {
 fn failed(was: Hot, number: u8) -> Hot
     ensures { result ≡ failed_of was number }
 {
-    let wrong = state::either(was.flags.wrong, number == 14);
     let mut next = was;
-    next.flags.wrong = wrong;
+    next.flags.wrong = was.flags.wrong || number == 14;
     next.pause.left = 0;
     next.pause.waiting = 0;
     next
@@ -30,36 +30,19 @@ fn due(settings: Settings, next: Plan, switch: u8, hot: Hot, master: u8) -> Wait
     requires { (master < 5) × StartFits next hot.counters }
     ensures { result ≡ due_of settings next switch hot master }
 {
-    let was = hot;
-    let number = start::start_number(settings, next, was, master);
-    let mut after = hot;
-    if number == 0 {
-        let started = start::begun(next, settings.polarity, switch, hot, master);
-        after = started;
+    let number = start::start_number(settings, next, hot, master);
+    let after = if number == 0 {
+        start::begun(next, settings.polarity, switch, hot, master)
     } else {
-        let dropped = failed(hot, number);
-        after = dropped;
-    }
+        failed(hot, number)
+    };
     Waited { hot: after, number }
-}
-
-// One tick of the dwell less.
-fn lessened(left: u32) -> u32
-    ensures { result ≡ left - 1 }
-{
-    if left == 0 {
-        return 0;
-    }
-    left - 1
 }
 
 fn is_due(left: u32, waiting: u16) -> bool
     ensures { result ≡ is_due_of left waiting }
 {
-    if left == 1 {
-        return 0 < waiting;
-    }
-    false
+    left == 1 && 0 < waiting
 }
 
 // Count the dwell down and, when it becomes 0, try a waiting start. The two ways write to one variable: a copy each
@@ -77,7 +60,7 @@ pub(crate) fn waits(settings: Settings, next: Plan, switch: u8, hot: Hot) -> Wai
         after = tried;
         number = waited.number;
     } else {
-        let left = lessened(hot.pause.left);
+        let left = hot.pause.left.saturating_sub(1);
         after.pause.left = left;
     }
     Waited { hot: after, number }

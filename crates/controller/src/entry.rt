@@ -13,10 +13,7 @@ fn signed(travel: Travel, minus: bool) -> i32
     ensures { result ≡ signed_of travel minus }
 {
     let steps = travel.0 as i32;
-    if minus {
-        return -steps;
-    }
-    steps
+    if minus { -steps } else { steps }
 }
 
 fn signed_at(plan: Plan, counters: Counters, k: usize) -> i32
@@ -28,16 +25,14 @@ fn signed_at(plan: Plan, counters: Counters, k: usize) -> i32
 }
 
 // 0 where the master has gone its whole length, else 1: stopped.
+// A number and no enum: C reads it.
 fn cause(run: Run) -> u8
     ensures { result ≡ cause_of run }
 {
-    if run.gone == run.length {
-        return 0;
-    }
-    1
+    if run.gone == run.length { 0 } else { 1 }
 }
 
-// The entry of a move that has ended, or zeros.
+// The entry of a move that has ended, or zeros: five axes written out, for the speed of the tick.
 pub(crate) fn told(ends: bool, plan: Plan, counters: Counters, run: Run) -> Entry
     requires { TravelsFit counters }
     ensures { result ≡ told_of ends plan counters run }

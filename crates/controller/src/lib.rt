@@ -30,7 +30,6 @@ ghost use Rattle.controller.specs.Settle.{SettlesAnswers};
 pub use crate::state::{ByteAnswer, Controller, Gathered, PowerOn, TickAnswer};
 pub use crate::turned::LAST_WORD;
 use block::REPLY_ROOM;
-use receiver::Heard;
 
 mod aside;
 mod carry;
@@ -117,23 +116,15 @@ impl Controller {
                 number: 2,
             };
         }
-        let cold = self.cold;
-        let line = cold.line;
-        let taken = line.take(b);
-        let next = taken.next;
-        let heard = taken.heard;
-        let controller = aside::with_line(self, next);
-        match heard {
-            Heard::Character => ByteAnswer {
+        let taken = self.cold.line.take(b);
+        let controller = aside::with_line(self, taken.next);
+        match taken.heard {
+            None => ByteAnswer {
                 controller,
                 length: 0,
                 number: 0,
             },
-            Heard::Line {
-                silent,
-                ident,
-                judged,
-            } => line_end::lined(controller, buf, silent, ident, judged),
+            Some(line) => line_end::lined(controller, buf, line),
         }
     }
 
@@ -143,10 +134,8 @@ impl Controller {
         requires { Reachable self }
         ensures { Promised self (answered.stretch bytes.now result) }
     {
-        let line = self.cold.line;
-        let gathered = line.gather(bytes);
-        let next = gathered.next;
-        let controller = aside::with_line(self, next);
+        let gathered = self.cold.line.gather(bytes);
+        let controller = aside::with_line(self, gathered.next);
         Gathered {
             controller,
             count: gathered.count,

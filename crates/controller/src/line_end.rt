@@ -14,21 +14,21 @@ ghost use Rattle.controller.specs.Inner.LineEnd.{
 
 use crate::state::{ByteAnswer, Controller};
 use crate::{numbers, orders, settle, status};
-use digits::Ident;
-use line::Judged;
-use line::command::Command;
+use line::Accepted;
+use receiver::Line;
 
 // A line turned away.
-fn refuse(c: Controller, buf: &mut [u8], silent: bool, ident: Ident, number: u8) -> ByteAnswer
+fn refuse(c: Controller, buf: &mut [u8], line: Line, number: u8) -> ByteAnswer
     requires { 120 ≤ length buf.old }
-    ensures value { result ≡ refuse_of c silent ident number }
-    ensures buf_after { buf.new ≡ over (refuse_reply c silent ident number) buf.old }
+    ensures value { result ≡ refuse_of c line.silent line.ident number }
+    ensures buf_after { buf.new ≡ over (refuse_reply c line.silent line.ident number) buf.old }
 {
     let controller = numbers::turned(c, number);
-    let mut length = 0;
-    if !silent {
-        length = reply::write_refusal(buf, c.cold.switch, number, ident);
-    }
+    let length = if line.silent {
+        0
+    } else {
+        reply::write_refusal(buf, c.cold.switch, number, line.ident)
+    };
     ByteAnswer {
         controller,
         length,
@@ -37,42 +37,28 @@ fn refuse(c: Controller, buf: &mut [u8], silent: bool, ident: Ident, number: u8)
 }
 
 // The reply to a line accepted, and its length: none to a silent one.
-fn tell(
-    c: Controller,
-    buf: &mut [u8],
-    silent: bool,
-    ident: Ident,
-    command: Command,
-    digits: u32,
-) -> usize
+fn tell(c: Controller, buf: &mut [u8], line: Line, accepted: Accepted) -> usize
     requires { 120 ≤ length buf.old }
-    ensures value { result ≡ length (tell_reply c silent ident command digits) }
-    ensures buf_after { buf.new ≡ over (tell_reply c silent ident command digits) buf.old }
+    ensures value { result ≡ length (tell_reply c line.silent line.ident accepted.command accepted.digits) }
+    ensures buf_after { buf.new ≡ over (tell_reply c line.silent line.ident accepted.command accepted.digits) buf.old }
 {
-    if silent {
+    if line.silent {
         return 0;
     }
     let told = status::readings(c);
-    reply::write_reply(buf, told, command, digits, ident)
+    reply::write_reply(buf, told, accepted.command, accepted.digits, line.ident)
 }
 
 // A line accepted: the reply first, since it is made from what is there before the command is obeyed.
-fn obey(
-    c: Controller,
-    buf: &mut [u8],
-    silent: bool,
-    ident: Ident,
-    command: Command,
-    digits: u32,
-) -> ByteAnswer
-    requires { (120 ≤ length buf.old) × CommandFits command }
-    ensures value { result ≡ obey_of c silent ident command digits }
-    ensures buf_after { buf.new ≡ over (tell_reply c silent ident command digits) buf.old }
+fn obey(c: Controller, buf: &mut [u8], line: Line, accepted: Accepted) -> ByteAnswer
+    requires { (120 ≤ length buf.old) × CommandFits accepted.command }
+    ensures value { result ≡ obey_of c line.silent line.ident accepted.command accepted.digits }
+    ensures buf_after { buf.new ≡ over (tell_reply c line.silent line.ident accepted.command accepted.digits) buf.old }
 {
-    let length = tell(c, buf, silent, ident, command, digits);
-    let done = orders::does(c, command);
+    let length = tell(c, buf, line, accepted);
+    let done = orders::does(c, accepted.command);
     let zeroed = orders::zero_watch(done);
-    let controller = settle::awaits(zeroed, command, silent, ident);
+    let controller = settle::awaits(zeroed, accepted.command, line.silent, line.ident);
     ByteAnswer {
         controller,
         length,
@@ -81,37 +67,20 @@ fn obey(
 }
 
 // A line that has ended.
-pub(crate) fn lined(
-    c: Controller,
-    buf: &mut [u8],
-    silent: bool,
-    ident: Ident,
-    judged: Judged,
-) -> ByteAnswer
-    requires { (120 ≤ length buf.old) × JudgedFits judged × NumberFits c }
-    ensures value { result ≡ lined_of c silent ident judged }
-    ensures buf_after { buf.new ≡ over (lined_reply c silent ident judged) buf.old }
+pub(crate) fn lined(c: Controller, buf: &mut [u8], line: Line) -> ByteAnswer
+    requires { (120 ≤ length buf.old) × JudgedFits line.judged × NumberFits c }
+    ensures value { result ≡ lined_of c line.silent line.ident line.judged }
+    ensures buf_after { buf.new ≡ over (lined_reply c line.silent line.ident line.judged) buf.old }
 {
-    let mut answer = ByteAnswer {
-        controller: c,
-        length: 0,
-        number: 0,
-    };
-    match judged {
-        Judged::Refused(number) => {
-            let refused = refuse(c, buf, silent, ident, number);
-            answer = refused;
-        }
-        Judged::Accepted { command, digits } => {
-            let number = numbers::number(c, command);
+    match line.judged {
+        Err(refusal) => refuse(c, buf, line, u8::from(refusal)),
+        Ok(accepted) => {
+            let number = numbers::number(c, accepted.command);
             if number == 0 {
-                let obeyed = obey(c, buf, silent, ident, command, digits);
-                answer = obeyed;
+                obey(c, buf, line, accepted)
             } else {
-                let refused = refuse(c, buf, silent, ident, number);
-                answer = refused;
+                refuse(c, buf, line, number)
             }
         }
     }
-    answer
 }

@@ -110,7 +110,7 @@ fn dwell_left(ends: bool, dwell: u32, left: u32) -> u32
     left
 }
 
-// Hot with what a tick alters in it.
+// Hot with what a tick alters in it: five axes written out, here, in `runs` and in words.rt, for the speed of the tick.
 fn stepped(hot: Hot, run: Run, left: u32, a: Axis, b: Axis, c: Axis, d: Axis, e: Axis) -> Hot
     ensures { result ≡ stepped_of hot run left a b c d e }
 {

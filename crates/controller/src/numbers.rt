@@ -1,4 +1,6 @@
-// Which numbers from 11 on turn a well-formed line away, and what that leaves (paper 01, "Turned away").
+// Which numbers from 11 on turn a well-formed line away, and what that leaves (paper 01, "Turned away"). A number is a
+// u8 here and in the tick, 0 for none: the answers of power-on, byte and tick hold it so (repr(C), read by firmware), and
+// it is the paper's own.
 ghost use Rattle.std.specs.Prelude.{◌≡◌, ◌<◌};
 ghost use Rattle.line.specs.Fits.{CommandFits};
 ghost use Rattle.controller.specs.Inner.Start.{StartFits};
@@ -16,7 +18,7 @@ ghost use Rattle.controller.specs.Inner.Numbers.{
 };
 
 use crate::state::Controller;
-use crate::{carry, start, state};
+use crate::{carry, start};
 use line::command;
 use line::command::Command;
 
@@ -27,20 +29,14 @@ pub(crate) const CARRY_ON: u8 = 12;
 pub(crate) fn stores(c: Controller, waits: bool) -> bool
     ensures { result ≡ stores_of c waits }
 {
-    if waits {
-        return 0 < c.hot.pause.left;
-    }
-    false
+    waits && 0 < c.hot.pause.left
 }
 
 // 11 while a move runs.
 fn rest_number(c: Controller) -> u8
     ensures { result ≡ rest_number_of c }
 {
-    if c.hot.run.moving {
-        return 11;
-    }
-    0
+    if c.hot.run.moving { 11 } else { 0 }
 }
 
 // A setting's number: 11 for any P but speed.
@@ -48,9 +44,10 @@ fn setting_number(c: Controller, code: u8) -> u8
     ensures { result ≡ setting_number_of c code }
 {
     if command::within(code as u32, 9, 12) {
-        return rest_number(c);
+        rest_number(c)
+    } else {
+        0
     }
-    0
 }
 
 // A start's number: 11, then its own unless it is stored.
@@ -59,15 +56,12 @@ fn start_line(c: Controller, master: u8, waits: bool) -> u8
     ensures { result ≡ start_line_of c master waits }
 {
     if c.hot.run.moving {
-        return 11;
+        11
+    } else if stores(c, waits) {
+        0
+    } else {
+        start::start_number(c.cold.settings, c.cold.next, c.hot, master)
     }
-    if stores(c, waits) {
-        return 0;
-    }
-    let settings = c.cold.settings;
-    let next = c.cold.next;
-    let hot = c.hot;
-    start::start_number(settings, next, hot, master)
 }
 
 // A carry-on's number: 11, then its own.
@@ -76,11 +70,10 @@ fn carry_line(c: Controller) -> u8
     ensures { result ≡ carry_line_of c }
 {
     if c.hot.run.moving {
-        return 11;
+        11
+    } else {
+        carry::carry_number(c.cold.settings, c.hot)
     }
-    let settings = c.cold.settings;
-    let hot = c.hot;
-    carry::carry_number(settings, hot)
 }
 
 // An order's number: a carry-on alone has one.
@@ -88,10 +81,7 @@ fn order_number(c: Controller, code: u8) -> u8
     requires { CarryFits c.hot }
     ensures { result ≡ order_number_of c code }
 {
-    if code == CARRY_ON {
-        return carry_line(c);
-    }
-    0
+    if code == CARRY_ON { carry_line(c) } else { 0 }
 }
 
 // The number that turns a well-formed line away, or 0.
@@ -100,16 +90,11 @@ pub(crate) fn number(c: Controller, command: Command) -> u8
     ensures { result ≡ number_of c command }
 {
     match command {
-        Command::Distance {
-            axis: _,
-            minus: _,
-            length: _,
-        } => rest_number(c),
-        Command::Set { code, value: _ } => setting_number(c, code),
+        Command::Distance { .. } => rest_number(c),
+        Command::Set { code, .. } => setting_number(c, code),
         Command::Start { master, waits } => start_line(c, master, waits),
         Command::Order(code) => order_number(c, code),
-        Command::Outputs(_) => 0,
-        Command::Read(_) => 0,
+        Command::Outputs(_) | Command::Read(_) => 0,
     }
 }
 
@@ -120,9 +105,8 @@ pub(crate) fn turned(c: Controller, number: u8) -> Controller
     if number < 10 {
         return c;
     }
-    let wrong = state::either(c.hot.flags.wrong, number == 14);
     let mut next = c;
     next.hot.watch = 0;
-    next.hot.flags.wrong = wrong;
+    next.hot.flags.wrong = c.hot.flags.wrong || number == 14;
     next
 }

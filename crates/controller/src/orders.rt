@@ -1,5 +1,5 @@
 // What an accepted command does (paper 01, "Lines").
-ghost use Rattle.std.specs.Prelude.{◌&&◌, ◌≡◌, ◌<◌};
+ghost use Rattle.std.specs.Prelude.{◌≡◌, ◌<◌};
 ghost use Rattle.line.specs.Fits.{CommandFits};
 ghost use Rattle.controller.specs.Inner.Orders.{
   obey_start_of,
@@ -23,14 +23,16 @@ fn obey_start(c: Controller, master: u8, waits: bool) -> Controller
 {
     let mut next = c;
     if numbers::stores(c, waits) {
-        let waiting = master as u16 + 1;
-        next.hot.pause.waiting = waiting;
-        return next;
+        next.hot.pause.waiting = master as u16 + 1;
+    } else {
+        next.hot = start::begun(
+            c.cold.next,
+            c.cold.settings.polarity,
+            c.cold.switch,
+            c.hot,
+            master,
+        );
     }
-    let plan = c.cold.next;
-    let hot = c.hot;
-    let started = start::begun(plan, c.cold.settings.polarity, c.cold.switch, hot, master);
-    next.hot = started;
     next
 }
 
@@ -47,28 +49,16 @@ fn obey_stop(c: Controller) -> Controller
     next
 }
 
-fn both(a: bool, b: bool) -> bool
-    ensures { result ≡ a && b }
-{
-    if a {
-        return b;
-    }
-    false
-}
-
 // A position reset zeroes positions and, with the emergency input inactive or disabled, frees the hold.
 fn obey_reset(c: Controller) -> Controller
     ensures { result ≡ obey_reset_of c }
 {
     let active = inputs::emergency(c.cold.settings.low, c.cold.settings.high, c.hot.inputs);
-    let held = both(c.hot.flags.emergency, active);
     let mut counters = c.hot.counters;
     counters.positions = [Position(digits::TOP_BIT); 5];
-    let mut hot = c.hot;
-    hot.counters = counters;
-    hot.flags.emergency = held;
     let mut next = c;
-    next.hot = hot;
+    next.hot.counters = counters;
+    next.hot.flags.emergency = c.hot.flags.emergency && active;
     next
 }
 
@@ -76,25 +66,15 @@ fn obey_reset(c: Controller) -> Controller
 fn obey_order(c: Controller, code: u8) -> Controller
     ensures { result ≡ obey_order_of c code }
 {
-    if code == 9 {
-        return obey_stop(c);
+    let mut next = c;
+    match code {
+        9 => next = obey_stop(c),
+        10 => next.hot.flags.wrong = false,
+        11 => next = obey_reset(c),
+        CARRY_ON => next.hot = carry::carried(c.hot),
+        _ => {}
     }
-    if code == 10 {
-        let mut next = c;
-        next.hot.flags.wrong = false;
-        return next;
-    }
-    if code == 11 {
-        return obey_reset(c);
-    }
-    if code == CARRY_ON {
-        let hot = c.hot;
-        let onward = carry::carried(hot);
-        let mut next = c;
-        next.hot = onward;
-        return next;
-    }
-    c
+    next
 }
 
 // What an accepted command does. A reading alters nothing.

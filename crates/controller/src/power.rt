@@ -10,10 +10,7 @@ use reply::{Position, Travel};
 pub(crate) fn is_bad(switch: u8) -> bool
     ensures { result ≡ is_bad_of switch }
 {
-    if 15 < switch {
-        return true;
-    }
-    switch == 12
+    15 < switch || switch == 12
 }
 
 // V 10,000, a 16, watch 1 (axes; paper 02, 2/14), all else 0.
@@ -58,9 +55,8 @@ fn fresh_hot(switch: u8, plan: Plan) -> Hot
         positions: [Position(digits::TOP_BIT); 5],
     };
     let run = fresh_run();
-    let minus = plan.minus;
     let general = outputs::general(switch, 0);
-    let cells = outputs::axis_cells(switch, 0, minus);
+    let cells = outputs::axis_cells(switch, 0, plan.minus);
     let wires = Wires { general, cells };
     let pause = Pause {
         left: 0,
@@ -89,10 +85,9 @@ fn fresh_hot(switch: u8, plan: Plan) -> Hot
 pub(crate) fn fresh(switch: u8) -> Controller
     ensures { result ≡ fresh_of switch }
 {
-    let minus = [false; 5];
     let plan = Plan {
         distances: [0; 5],
-        minus,
+        minus: [false; 5],
     };
     let settings = fresh_settings();
     let hot = fresh_hot(switch, plan);

@@ -27,13 +27,7 @@ const ROUND: u64 = 4294967296;
 fn brake(u: u32, a: u32) -> u32
     ensures { result ≡ braked u a }
 {
-    if u <= a {
-        return u;
-    }
-    if u - a <= a {
-        return a;
-    }
-    u - a
+    if u <= a { u } else { (u - a).max(a) }
 }
 
 // u goes towards the target by at most a.
@@ -41,15 +35,10 @@ fn approach(u: u32, target: u32, a: u32) -> u32
     ensures { result ≡ towards u target a }
 {
     if u <= target {
-        if target - u <= a {
-            return target;
-        }
-        return u + a;
+        u.saturating_add(a).min(target)
+    } else {
+        u.saturating_sub(a).max(target)
     }
-    if u - target <= a {
-        return target;
-    }
-    u - a
 }
 
 // The speed of this tick.
@@ -60,10 +49,7 @@ fn ramp(settings: Settings, run: Run) -> u32
     let u = run.speed;
     let a = settings.slope;
     if run.stopping {
-        if u <= a {
-            return 0;
-        }
-        return u - a;
+        return u.saturating_sub(a);
     }
     let left = (run.length - run.gone) as u64 * FULL as u64 - run.phase as u64;
     if 2 * a as u64 * left <= u as u64 * u as u64 {
@@ -76,10 +62,7 @@ fn ramp(settings: Settings, run: Run) -> u32
 fn stands(run: Run, slope: u32) -> bool
     ensures { result ≡ stands_of run slope }
 {
-    if run.stopping {
-        return run.speed <= slope;
-    }
-    false
+    run.stopping && run.speed <= slope
 }
 
 // The ticks in which the move's ramp ran.

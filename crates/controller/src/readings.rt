@@ -17,10 +17,7 @@ impl Controller {
         requires { Reachable self }
         ensures { TravelsOf self result }
     {
-        let hot = self.hot;
-        let counters = hot.counters;
-        let travels = counters.travels;
-        travels
+        self.hot.counters.travels
     }
 
     // The signed pulses of each axis since power-on or the last position reset.
@@ -29,13 +26,10 @@ impl Controller {
         ensures positions_of { PositionsOf self result }
         ensures made { Made self (λ m. map position_of result ≡ each m.position) }
     {
-        let hot = self.hot;
-        let counters = hot.counters;
-        let positions = counters.positions;
-        positions
+        self.hot.counters.positions
     }
 
-    // The same as signed numbers.
+    // The same as signed numbers. (By `map` over the array the proof did not close.)
     pub fn signed_positions(self) -> [i64; 5]
         requires { Reachable self }
         ensures { Made self (λ m. result ≡ each m.position) }
@@ -63,9 +57,7 @@ impl Controller {
         requires { Reachable self }
         ensures { Made self (λ m. result ≡ m.settings.speed) }
     {
-        let cold = self.cold;
-        let settings = cold.settings;
-        settings.speed
+        self.cold.settings.speed
     }
 
     // The slope setting in units of 1.25 kHz/s.
@@ -73,8 +65,6 @@ impl Controller {
         requires { Reachable self }
         ensures { Made self (λ m. result ≡ m.settings.slope) }
     {
-        let cold = self.cold;
-        let settings = cold.settings;
-        settings.slope
+        self.cold.settings.slope
     }
 }

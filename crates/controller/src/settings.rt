@@ -15,19 +15,15 @@ pub(crate) fn set_axis(c: Controller, axis: u8, minus: bool, length: u32) -> Con
     ensures { result ≡ set_axis_of c axis minus length }
 {
     let k = axis as usize;
-    let mut plan = c.cold.next;
-    plan.distances[k] = length;
-    plan.minus[k] = minus;
-    let mut cold = c.cold;
-    cold.next = plan;
     let mut next = c;
-    next.cold = cold;
-    let master = carry::replanned(c.hot.run.master);
-    next.hot.run.master = master;
+    next.cold.next.distances[k] = length;
+    next.cold.next.minus[k] = minus;
+    next.hot.run.master = carry::replanned(c.hot.run.master);
     next
 }
 
-// The settings with the one of this code replaced. (No line has another code.)
+// The settings with the one of this code replaced. The code is a number and no enum, as in `Command::Set`, for
+// `write_line` of host promises 19 for every code without a line.
 fn put(settings: Settings, code: u8, v: u32) -> Settings
     ensures { result ≡ put settings code v }
 {
@@ -49,12 +45,8 @@ fn put(settings: Settings, code: u8, v: u32) -> Settings
 fn store(c: Controller, code: u8, v: u32) -> Controller
     ensures { result ≡ with_setting c code v }
 {
-    let was = c.cold.settings;
-    let settings = put(was, code, v);
-    let mut cold = c.cold;
-    cold.settings = settings;
     let mut next = c;
-    next.cold = cold;
+    next.cold.settings = put(c.cold.settings, code, v);
     next
 }
 
@@ -62,14 +54,12 @@ fn store(c: Controller, code: u8, v: u32) -> Controller
 fn rewire(c: Controller) -> Controller
     ensures { result ≡ rewire_of c }
 {
-    let minus = c.hot.plan.minus;
-    let cells = outputs::axis_cells(c.cold.switch, c.cold.settings.polarity, minus);
-    let mut wires = c.hot.wires;
-    wires.cells = cells;
-    let mut hot = c.hot;
-    hot.wires = wires;
     let mut next = c;
-    next.hot = hot;
+    next.hot.wires.cells = outputs::axis_cells(
+        c.cold.switch,
+        c.cold.settings.polarity,
+        c.hot.plan.minus,
+    );
     next
 }
 
@@ -78,18 +68,14 @@ pub(crate) fn set_setting(c: Controller, code: u8, v: u32) -> Controller
     ensures { result ≡ set_setting_of c code v }
 {
     let next = store(c, code, v);
-    if code == POLARITY {
-        return rewire(next);
-    }
-    next
+    if code == POLARITY { rewire(next) } else { next }
 }
 
 // The general outputs, and what they add to an output word.
 pub(crate) fn set_outputs(c: Controller, v: u32) -> Controller
     ensures { result ≡ set_outputs_of c v }
 {
-    let general = outputs::general(c.cold.switch, v);
     let mut next = c;
-    next.hot.wires.general = general;
+    next.hot.wires.general = outputs::general(c.cold.switch, v);
     next
 }

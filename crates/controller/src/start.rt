@@ -22,9 +22,10 @@ fn leaves(position: Position, minus: bool, distance: u32) -> bool
     ensures { result ≡ leaves_of position minus distance }
 {
     if minus {
-        return position.0 < distance;
+        position.0 < distance
+    } else {
+        LAST_PLACE < position.0 + distance
     }
-    LAST_PLACE < position.0 + distance
 }
 
 fn leaves_at(next: Plan, counters: Counters, k: usize) -> bool
@@ -35,52 +36,48 @@ fn leaves_at(next: Plan, counters: Counters, k: usize) -> bool
     leaves(position, next.minus[k], next.distances[k])
 }
 
-// Whether some final position is out of range.
+// Whether some final position is out of range. A plan and the counters, and no Hot: the plan is the next move's, or what
+// is open of the latest, and neither stands in Hot.
+// By `any` over the axes the proof did not close.
 pub(crate) fn some_leave(next: Plan, counters: Counters) -> bool
     requires { StartFits next counters }
     ensures { result ≡ some_leave_of next counters }
 {
-    if leaves_at(next, counters, 0) {
-        return true;
-    }
-    if leaves_at(next, counters, 1) {
-        return true;
-    }
-    if leaves_at(next, counters, 2) {
-        return true;
-    }
-    if leaves_at(next, counters, 3) {
-        return true;
-    }
-    leaves_at(next, counters, 4)
+    leaves_at(next, counters, 0)
+        || leaves_at(next, counters, 1)
+        || leaves_at(next, counters, 2)
+        || leaves_at(next, counters, 3)
+        || leaves_at(next, counters, 4)
 }
 
-// The number that turns a start with this master away, or 0.
+// The number that turns a start with this master away, or 0: as the answers of byte and tick hold it.
 pub(crate) fn start_number(settings: Settings, next: Plan, hot: Hot, master: u8) -> u8
     requires { (master < 5) × StartFits next hot.counters }
     ensures { result ≡ start_number_of settings next hot master }
 {
-    let flags = hot.flags;
-    if flags.emergency {
+    if hot.flags.emergency {
         return 12;
     }
     if inputs::sensor(settings.low, settings.high, hot.inputs) {
         return 13;
     }
-    let distances = next.distances;
-    let minus = next.minus;
-    let length = distances[master as usize];
-    if distances::some_longer(distances, length) {
+    let length = next.distances[master as usize];
+    if distances::some_longer(next.distances, length) {
         return 14;
     }
     if length == 0 {
         return 15;
     }
-    if inputs::blocked(settings.low, settings.high, hot.inputs, distances, minus) {
+    if inputs::blocked(
+        settings.low,
+        settings.high,
+        hot.inputs,
+        next.distances,
+        next.minus,
+    ) {
         return 16;
     }
-    let counters = hot.counters;
-    if some_leave(next, counters) {
+    if some_leave(next, hot.counters) {
         return 17;
     }
     0
@@ -91,11 +88,9 @@ pub(crate) fn begun(next: Plan, polarity: u32, switch: u8, hot: Hot, master: u8)
     requires { master < 5 }
     ensures { result ≡ begun_of next polarity switch hot master }
 {
-    let distances = next.distances;
-    let minus = next.minus;
-    let cells = outputs::axis_cells(switch, polarity, minus);
+    let cells = outputs::axis_cells(switch, polarity, next.minus);
     let run = Run {
-        length: distances[master as usize],
+        length: next.distances[master as usize],
         gone: 0,
         speed: 0,
         phase: 0,
@@ -105,8 +100,7 @@ pub(crate) fn begun(next: Plan, polarity: u32, switch: u8, hot: Hot, master: u8)
         ticks: 0,
         rounds: 0,
     };
-    let was = hot.counters;
-    let positions = was.positions;
+    let positions = hot.counters.positions;
     let counters = Counters {
         travels: [Travel(0); 5],
         remainders: [0; 5],

@@ -1,7 +1,5 @@
 // The controller in parts: what a tick may alter, what only bytes alter; and what the entries answer. `Run` and `Pause`
 // have no hole behind their last field: the compiler copies a hole by itself in every tick.
-ghost use Rattle.std.specs.Prelude.{◌≡◌, ◌||◌};
-
 use journal::Entry;
 use outputs::Cells;
 use receiver::Receiver;
@@ -21,6 +19,7 @@ pub struct Settings {
 }
 
 // A distance and a direction for each axis; true is minus.
+// Arrays side by side: the form that paper 01 names, in the layout of firmware.
 #[repr(C)]
 #[derive(Clone, Copy)]
 pub struct Plan {
@@ -47,6 +46,7 @@ pub struct Run {
 }
 
 // What each axis counts. A remainder is what the master's travel times the distance leaves when divided by the length.
+// Arrays side by side: the form that paper 01 names, in the layout of firmware.
 #[repr(C)]
 #[derive(Clone, Copy)]
 pub struct Counters {
@@ -55,8 +55,8 @@ pub struct Counters {
     pub positions: [Position; 5],
 }
 
-// The ticks of the dwell that are left, and the waiting start: 0, or its master and 1; and the ticks until the block of
-// a W line, 0 where none is to come.
+// The ticks of the dwell that are left, and the waiting start: 0, or its master and 1 (no Option: repr(C)); and the ticks
+// until the block of a W line, 0 where none is to come.
 #[repr(C)]
 #[derive(Clone, Copy)]
 pub struct Pause {
@@ -83,6 +83,8 @@ pub struct Wires {
     pub cells: Cells,
 }
 
+// What a tick may alter. Settings and the next plan are passed apart from it: bytes alone alter them, and so the steps
+// of a tick hand on Hot alone.
 #[repr(C)]
 #[derive(Clone, Copy)]
 pub struct Hot {
@@ -96,7 +98,8 @@ pub struct Hot {
     pub flags: Flags,
 }
 
-// What only bytes alter. The identification is the latest W line's, if that has one: no enum crosses to firmware.
+// What only bytes alter. `ident` is the identification of the latest W line, if that is `named`: a flag and a character
+// in the place of an Option, since no enum crosses to firmware (repr(C)).
 #[repr(C)]
 #[derive(Clone, Copy)]
 pub struct Cold {
@@ -109,6 +112,8 @@ pub struct Cold {
 }
 
 // Its fields are the crate's own, so that only power-on and calls can make one.
+// That calls made it (`Reachable`) is a premise of its functions and no invariant: the only one that paper 01 allows,
+// and C hands controllers in.
 #[repr(C)]
 #[derive(Clone, Copy)]
 pub struct Controller {
@@ -117,6 +122,7 @@ pub struct Controller {
 }
 
 // A controller as power-on leaves it, and 1 for a switch that there is none of, else 0.
+// A number and no Result: see numbers.rt.
 #[repr(C)]
 #[derive(Drop)]
 pub struct PowerOn {
@@ -126,6 +132,7 @@ pub struct PowerOn {
 
 // What a byte answers: the next controller, the length of the reply in the lent buffer, and the number that turned
 // the byte or its line away, told of silent lines too; 0 where nothing was.
+// A number and no Result: see numbers.rt. A length and no slice: paper 01 has the byte step tell it.
 #[repr(C)]
 #[derive(Drop)]
 pub struct ByteAnswer {
@@ -144,6 +151,7 @@ pub struct Gathered {
 // What a tick answers: the next controller, the five pulses (-1, 0, 1), the output words of its two halves, the number
 // of a waiting start that failed, or 2, 3, or 0, whether it ends a move, with the entry of that move for the journal
 // (an entry without an end is all zeros), and the length of a W line's block in the lent buffer, 0 without one.
+// A number and no Result: see numbers.rt; a flag beside the entry, since C reads it.
 #[repr(C)]
 #[derive(Drop)]
 pub struct TickAnswer {
@@ -155,13 +163,4 @@ pub struct TickAnswer {
     pub ended: bool,
     pub length: u8,
     pub entry: Entry,
-}
-
-pub(crate) fn either(a: bool, b: bool) -> bool
-    ensures { result ≡ a || b }
-{
-    if a {
-        return true;
-    }
-    b
 }

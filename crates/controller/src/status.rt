@@ -5,19 +5,18 @@ ghost use Rattle.controller.specs.Inner.Parts.{blocked_in};
 ghost use Rattle.controller.specs.Inner.Status.{current_of, status_of, readings_of};
 
 use crate::state::{Controller, Plan};
-use crate::{state, watch};
+use crate::watch;
 use reply::Readings;
 
+// A function and no `if` in each place: its promise keeps the sum of the seven in a byte.
 fn bit(on: bool, n: u8) -> u8
     ensures { (result ≡ weight on n) × (result ≤ n) }
 {
-    if on {
-        return n;
-    }
-    0
+    if on { n } else { 0 }
 }
 
-// The running move's distances, else the next move's.
+// The running move's distances, else the next move's. As the value of an `if` it was tried: a short line through
+// firmware took 11 ns more.
 fn current(c: Controller) -> Plan
     ensures { result ≡ current_of c }
 {
@@ -31,6 +30,7 @@ fn current(c: Controller) -> Plan
 
 // Whether a limit is in the way. The arrays are made anew, so that no line has to keep a plan in memory for a call that
 // few make.
+// Not one function with `limit_or_watch` of watch: tried, and a tick of firmware took 2 ns more.
 fn blocked(c: Controller) -> bool
     ensures { result ≡ blocked_in c.cold.settings c.hot.inputs (current_of c) }
 {
@@ -55,12 +55,10 @@ fn blocked(c: Controller) -> bool
 pub(crate) fn status(c: Controller) -> u8
     ensures { result ≡ status_of c }
 {
-    let hot = c.hot;
-    let run = hot.run;
-    let flags = hot.flags;
-    let pause = hot.pause;
+    let run = c.hot.run;
+    let flags = c.hot.flags;
     let limited = blocked(c);
-    let busy = state::either(run.moving, 0 < pause.left);
+    let busy = run.moving || 0 < c.hot.pause.left;
     bit(busy, 1)
         + bit(run.moving, 2)
         + bit(flags.wrong, 4)
@@ -74,20 +72,15 @@ pub(crate) fn status(c: Controller) -> u8
 pub(crate) fn readings(c: Controller) -> Readings
     ensures { result ≡ readings_of c }
 {
-    let hot = c.hot;
-    let cold = c.cold;
-    let counters = hot.counters;
-    let travels = counters.travels;
-    let positions = counters.positions;
-    let plan = hot.plan;
-    let minus = plan.minus;
-    let status = status(c);
+    let travels = c.hot.counters.travels;
+    let positions = c.hot.counters.positions;
+    let minus = c.hot.plan.minus;
     Readings {
         travels,
         positions,
-        inputs: hot.inputs,
+        inputs: c.hot.inputs,
         minus,
-        switch: cold.switch,
-        status,
+        switch: c.cold.switch,
+        status: status(c),
     }
 }

@@ -10,7 +10,7 @@ use journal::NO_ENTRY;
 // The greatest input word: 24 bits.
 pub const LAST_WORD: u32 = 16777215;
 
-// The number that turns a tick away, by the length of its buffer and its word, or 0.
+// The number that turns a tick away, by the length of its buffer and its word, or 0: as the tick's answer holds it.
 pub(crate) fn tick_number(room: usize, word: u32) -> u8
     ensures { result ≡ tick_number_of room word }
 {

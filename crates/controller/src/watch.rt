@@ -6,34 +6,31 @@ ghost use Rattle.controller.specs.Inner.Watch.{
   takes_of,
   is_calm_of,
   limit_or_watch_of,
-  has_cause_of,
   causes_of,
   stops_of,
 };
 
 use crate::state::{Hot, Plan, Settings};
-use crate::{settle, state};
 
 // The watch count at which the line counts as lost: 4 s.
 const WATCH_FULL: u32 = 1000000;
 
+// By `saturating_add` and `min` it was tried: a tick of firmware took 1 ns more.
 fn raised(watch: u32) -> u32
     ensures { result ≡ raised_of watch }
 {
     if watch < WATCH_FULL {
-        return watch + 1;
+        watch + 1
+    } else {
+        WATCH_FULL
     }
-    WATCH_FULL
 }
 
 // Whether the count is full and the setting, shifted down to its bit, watches.
 fn is_full(watch: u32, setting: u32) -> bool
     ensures { result ≡ is_full_of watch setting }
 {
-    if watch < WATCH_FULL {
-        return false;
-    }
-    setting % 2 == 1
+    WATCH_FULL <= watch && setting % 2 == 1
 }
 
 // Take inputs, with one tick less until a W line's block, raise the watch count, hold an active emergency, clear the
@@ -42,14 +39,12 @@ pub(crate) fn takes(settings: Settings, was: Hot, word: u32) -> Hot
     ensures { result ≡ takes_of settings was word }
 {
     let active = inputs::emergency(settings.low, settings.high, word);
-    let emergency = state::either(was.flags.emergency, active);
     let watch = raised(was.watch);
-    let block = settle::fewer(was.pause.block);
     let mut next = was;
     next.inputs = word;
-    next.pause.block = block;
+    next.pause.block = was.pause.block.saturating_sub(1);
     next.watch = watch;
-    next.flags.emergency = emergency;
+    next.flags.emergency = was.flags.emergency || active;
     if is_full(watch, settings.watch / 2) {
         next.wires.general = 0;
     }
@@ -60,10 +55,7 @@ pub(crate) fn takes(settings: Settings, was: Hot, word: u32) -> Hot
 pub(crate) fn is_calm(low: u32, high: u32, inputs: u32) -> bool
     ensures { result ≡ is_calm_of low high inputs }
 {
-    if (high & inputs) % 1024 == 0 {
-        return (low & inputs) % 1024 == low % 1024;
-    }
-    false
+    (high & inputs) % 1024 == 0 && (low & inputs) % 1024 == low % 1024
 }
 
 // A limit or the watch: the causes that set bit 3. The arrays are made anew, so that no tick has to keep the plan in
@@ -78,22 +70,8 @@ fn limit_or_watch(settings: Settings, plan: Plan, inputs: u32, watch: u32) -> bo
     let m = plan.minus;
     let distances = [d[0], d[1], d[2], d[3], d[4]];
     let minus = [m[0], m[1], m[2], m[3], m[4]];
-    if inputs::blocked(settings.low, settings.high, inputs, distances, minus) {
-        return true;
-    }
-    is_full(watch, settings.watch)
-}
-
-fn has_cause(emergency: bool, sensor: bool, limit: bool) -> bool
-    ensures { result ≡ has_cause_of emergency sensor limit }
-{
-    if emergency {
-        return true;
-    }
-    if sensor {
-        return true;
-    }
-    limit
+    inputs::blocked(settings.low, settings.high, inputs, distances, minus)
+        || is_full(watch, settings.watch)
 }
 
 // What meets a running move: any cause, a limit or the watch, the sensor.
@@ -123,8 +101,11 @@ fn causes(
     }
     let sensor = inputs::sensor(settings.low, settings.high, inputs);
     let limit = limit_or_watch(settings, plan, inputs, watch);
-    let any = has_cause(emergency, sensor, limit);
-    Met { any, limit, sensor }
+    Met {
+        any: emergency || sensor || limit,
+        limit,
+        sensor,
+    }
 }
 
 // Begin a stop of a running move that a cause meets, and mark bits 3 and 6.
@@ -140,12 +121,9 @@ pub(crate) fn stops(settings: Settings, was: Hot) -> Hot
         was.inputs,
         was.watch,
     );
-    let stopping = state::either(was.run.stopping, met.any);
-    let stopped = state::either(was.flags.stopped, met.limit);
-    let sensed = state::either(was.flags.sensed, met.sensor);
     let mut next = was;
-    next.run.stopping = stopping;
-    next.flags.stopped = stopped;
-    next.flags.sensed = sensed;
+    next.run.stopping = was.run.stopping || met.any;
+    next.flags.stopped = was.flags.stopped || met.limit;
+    next.flags.sensed = was.flags.sensed || met.sensor;
     next
 }

@@ -1,4 +1,5 @@
 -- A character and the value and case that are read of it are one to one (specs/Characters.antt). Assumes nothing.
+use Rattle.std.proofs.Common.{Option, Some, None}
 use Prim.Native.Nat.{ℕ, zero, suc, ◌+◌, ◌-◌, ◌<◌, ◌≤◌}
 use mathlib.Core.Bool.{Bool, true, false, ◌||◌, false≢true}
 use mathlib.Core.List.{List, [], ◌∷◌, ◌++◌}
@@ -9,7 +10,7 @@ use lib.Dec.{ltb, leb, eqb}
 use Rattle.laws.proofs.Pick.{by_bool, by_lt}
 use Rattle.laws.proofs.Tests.{both}
 use Rattle.digits.specs.declared.Digit.{Digit}
-use Rattle.digits.specs.declared.Digit.TheVariants.{Other, Capital, Small}
+use Rattle.digits.specs.declared.Digit.TheVariants.{Capital, Small}
 use Rattle.digits.specs.Digits.{digit_of, capital_of}
 use Rattle.digits.specs.Characters.{up_from, digit_characters, is_one, is_digit, spelt, OneToOne}
 use Rattle.digits.proofs.Laws.{Tells, digit_tells, digit_capital}
@@ -64,22 +65,22 @@ twenty_two c =
     λ h5. by_lt Is c 103 _ _ (λ h. sym (parts c _ _ _ (above c 48 10 h2) (above c 65 6 h4) (inside c 97 6 h5 h)))
     λ h6. sym (parts c _ _ _ (above c 48 10 h2) (above c 65 6 h4) (above c 97 6 h6))
   where
-    Is : Digit → Type 0
+    Is : Option Digit → Type 0
     Is d = is_digit d ≡ is_one c digit_characters
 
 -- ---- The character of a value and a case
 
-own_character : (c : ℕ) (d : Digit) → Tells c d → is_digit d ≡ true → spelt d ≡ c ∷ []
-own_character c Other t e = absurd (false≢true e)
-own_character c (Capital v) t e = rw (lt-ltb v 16 t.0) (ap (λ (x : ℕ). x ∷ []) t.1)
-own_character c (Small v) t e =
+own_character : (c : ℕ) (d : Option Digit) → Tells c d → is_digit d ≡ true → spelt d ≡ c ∷ []
+own_character c None t e = absurd (false≢true e)
+own_character c (Some (Capital v)) t e = rw (lt-ltb v 16 t.0) (ap (λ (x : ℕ). x ∷ []) t.1)
+own_character c (Some (Small v)) t e =
     rw (le-leb 10 v t.1.0, lt-ltb v 16 t.0) (ap (λ (x : ℕ). x ∷ []) t.1.1)
 
 pub own : (c : ℕ) → is_digit (digit_of c) ≡ true → spelt (digit_of c) ≡ c ∷ []
 own c e = own_character c (digit_of c) (digit_tells c) e
 
 -- A small letter reads as its value.
-digit_small : (v : ℕ) → 10 ≤ v → v < 16 → digit_of (87 + v) ≡ Small v
+digit_small : (v : ℕ) → 10 ≤ v → v < 16 → digit_of (87 + v) ≡ Some (Small v)
 digit_small v h k =
     let a : 48 ≤ 87 + v = omega arith in
     let b : 58 ≤ 87 + v = omega arith in
@@ -88,7 +89,7 @@ digit_small v h k =
     let g : 97 ≤ 87 + v = omega arith in
     let l : 87 + v < 103 = omega arith in
     let e : 87 + v - 87 ≡ v = omega arith in
-    rw (le-ltb _ _ a, le-ltb _ _ b, le-ltb _ _ d, le-ltb _ _ f, le-ltb _ _ g, lt-ltb _ _ l) (ap Small e)
+    rw (le-ltb _ _ a, le-ltb _ _ b, le-ltb _ _ d, le-ltb _ _ f, le-ltb _ _ g, lt-ltb _ _ l) (ap (λ (x : ℕ). Some (Small x)) e)
 
 no_character : (c : ℕ) → ◌≡◌ {A = List ℕ} [] (c ∷ []) → ⊥
 no_character c e = let z : ◌≡◌ {A = ℕ} 0 1 = cc in omega arith
@@ -96,21 +97,21 @@ no_character c e = let z : ◌≡◌ {A = ℕ} 0 1 = cc in omega arith
 same_character : (x c : ℕ) → ◌≡◌ {A = List ℕ} (x ∷ []) (c ∷ []) → x ≡ c
 same_character x c e = cc
 
-read_back : (d : Digit) (c : ℕ) → spelt d ≡ c ∷ [] → digit_of c ≡ d
-read_back Other c e = absurd (no_character c e)
-read_back (Capital v) c p =
-    by_bool (λ (l : List ℕ). l ≡ c ∷ [] → digit_of c ≡ Capital v) (ltb v 16) _ _
+read_back : (d : Option Digit) (c : ℕ) → spelt d ≡ c ∷ [] → digit_of c ≡ d
+read_back None c e = absurd (no_character c e)
+read_back (Some (Capital v)) c p =
+    by_bool (λ (l : List ℕ). l ≡ c ∷ [] → digit_of c ≡ Some (Capital v)) (ltb v 16) _ _
     (λ h e. ap digit_of (sym (same_character (capital_of v) c e)) ∙ digit_capital v (ltb-true v 16 h))
     (λ h e. absurd (no_character c e)) p
-read_back (Small v) c p =
-    by_bool (λ (l : List ℕ). l ≡ c ∷ [] → digit_of c ≡ Small v) _ _ _
+read_back (Some (Small v)) c p =
+    by_bool (λ (l : List ℕ). l ≡ c ∷ [] → digit_of c ≡ Some (Small v)) _ _ _
     (λ h e. let b = both (leb 10 v) (ltb v 16) h in
     ap digit_of (sym (same_character (87 + v) c e)) ∙ digit_small v (leb-true 10 v b.0) (ltb-true v 16 b.1))
     (λ h e. absurd (no_character c e)) p
 
 apart : (c e : ℕ) → is_digit (digit_of c) ≡ true → digit_of c ≡ digit_of e → c ≡ e
 apart c e p q =
-    same_character c e (sym (own c p) ∙ (ap spelt q ∙ own e (subst (λ (d : Digit). is_digit d ≡ true) q p)))
+    same_character c e (sym (own c p) ∙ (ap spelt q ∙ own e (subst (λ (d : Option Digit). is_digit d ≡ true) q p)))
 
 pub one_to_one : OneToOne
 one_to_one = record {

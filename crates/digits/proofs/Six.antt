@@ -7,12 +7,11 @@ use mathlib.Core.Path.{◌≡◌, refl, ap, ◌∙◌}
 use native.Mathlib.Omega.{arith}
 use lib.ListN.{length, get_or}
 use lib.Seq.{ext_get_or}
-use Rattle.digits.specs.declared.Number.TheVariants.{Value}
-use Rattle.digits.specs.Digits.{capital_of, six_of, join_of, number_of, Under}
-use Rattle.digits.proofs.Laws.{digit_capital, under_join, joined}
+use Rattle.digits.specs.Digits.{capital_of, six_of, join_of, number_of, Under, numbered}
+use Rattle.digits.proofs.Laws.{digit_capital, under_join, value_in, joined}
 
 -- The number of six digits, read back digit by digit.
-pub six_number : (n : ℕ) → n < 16777216 → number_of (six_of n) ≡ Value n false
+pub six_number : (n : ℕ) → n < 16777216 → number_of (six_of n) ≡ numbered n false
 unfolding number_of six_of
 six_number n h =
     rw (
@@ -23,7 +22,7 @@ six_number n h =
       digit_capital (n / 16 % 16) (omega arith),
       digit_capital (n % 16) (omega arith),
     )
-    (ap (λ (k : ℕ). Value k false) all)
+    (ap (λ (k : ℕ). numbered k false) all)
   where
     a : (0 * 16 + n / 1048576 % 16) ≡ n / 1048576
     a = omega arith
@@ -74,11 +73,11 @@ six_values a b d e f g ha hb hd he hf hg =
     p1 : (((((a * 16 + b) * 16 + d) * 16 + e) * 16 + f) * 16 + g) / 1048576 % 16 ≡ a
     p1 = omega arith
 
-value_of : {a b : ℕ} → Value a false ≡ Value b false → a ≡ b
-value_of q = cc
+value_of : {a b : ℕ} → numbered a false ≡ numbered b false → a ≡ b
+value_of q = ap value_in q
 
 -- The six capitals of the number that six digits with no small letter have are those digits.
-pub number_six : (c1 c2 c3 c4 c5 c6 n : ℕ) → number_of (c1 ∷ c2 ∷ c3 ∷ c4 ∷ c5 ∷ c6 ∷ []) ≡ Value n false
+pub number_six : (c1 c2 c3 c4 c5 c6 n : ℕ) → number_of (c1 ∷ c2 ∷ c3 ∷ c4 ∷ c5 ∷ c6 ∷ []) ≡ numbered n false
     → six_of n ≡ c1 ∷ c2 ∷ c3 ∷ c4 ∷ c5 ∷ c6 ∷ []
 unfolding number_of
 number_six c1 c2 c3 c4 c5 c6 n e =
@@ -87,7 +86,7 @@ number_six c1 c2 c3 c4 c5 c6 n e =
     let j4 = joined _ c4 j5.front j5.read in
     let j3 = joined _ c3 j4.front j4.read in
     let j2 = joined _ c2 j3.front j3.read in
-    let j1 = joined (Value 0 false) c1 j2.front j2.read in
+    let j1 = joined (numbered 0 false) c1 j2.front j2.read in
     let z : 0 ≡ j1.front = value_of j1.read in
     let n2 : j2.front ≡ j1.value = omega (arith, j1.whole) in
     ap six_of (j6.whole ∙ ap (λ (k : ℕ). k * 16 + j6.value) (j5.whole ∙ ap (λ (k : ℕ). k * 16 + j5.value)
@@ -115,11 +114,11 @@ six_listed l h = ext_get_or 0 l _ h same
 pub under_six : (c1 c2 c3 c4 c5 c6 : ℕ) → Under 16777216 (number_of (c1 ∷ c2 ∷ c3 ∷ c4 ∷ c5 ∷ c6 ∷ []))
 unfolding number_of
 under_six c1 c2 c3 c4 c5 c6 =
-    let n1 = join_of (Value 0 false) c1 in
+    let n1 = join_of (numbered 0 false) c1 in
     let n2 = join_of n1 c2 in
     let n3 = join_of n2 c3 in
     let n4 = join_of n3 c4 in
     let n5 = join_of n4 c5 in
     under_join 1048576 n5 c6 (under_join 65536 n4 c5
     (under_join 4096 n3 c4 (under_join 256 n2 c3
-    (under_join 16 n1 c2 (under_join 1 (Value 0 false) c1 (omega arith))))))
+    (under_join 16 n1 c2 (under_join 1 (numbered 0 false) c1 (omega arith))))))

@@ -1,20 +1,21 @@
 -- What is read of a character tells what it is: its value is below 16, and the character is that value's in its case.
 -- A file of its own, so that an edit of the reading is refused by this fact alone. Assumes nothing.
+use Rattle.std.proofs.Common.{Option, Some, None}
 use Prim.Native.Nat.{ℕ, ◌+◌, ◌-◌, ◌%◌, ◌<◌, ◌≤◌}
 use mathlib.Core.Path.{◌≡◌}
 use native.Mathlib.Omega.{arith}
 use borrow.Author.Tests.{lt-ltb, le-ltb}
 use Rattle.laws.proofs.Pick.{by_lt}
 use Rattle.digits.specs.declared.Digit.{Digit}
-use Rattle.digits.specs.declared.Digit.TheVariants.{Other, Capital, Small}
+use Rattle.digits.specs.declared.Digit.TheVariants.{Capital, Small}
 use Rattle.digits.specs.Digits.{digit_of, capital_of}
 
 -- What a digit tells of its character: a value below 16, from 10 on for a small letter, and that the character is that
 -- value's in its case.
-abbrev pub Tells : ℕ → Digit → Type 0
-Tells c Other = 0 < 1
-Tells c (Capital v) = (v < 16) × (capital_of v ≡ c)
-Tells c (Small v) = (v < 16) × ((10 ≤ v) × (87 + v ≡ c))
+abbrev pub Tells : ℕ → Option Digit → Type 0
+Tells c None = 0 < 1
+Tells c (Some (Capital v)) = (v < 16) × (capital_of v ≡ c)
+Tells c (Some (Small v)) = (v < 16) × ((10 ≤ v) × (87 + v ≡ c))
 
 pub digit_tells : (c : ℕ) → Tells c (digit_of c)
 digit_tells c =

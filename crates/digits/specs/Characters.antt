@@ -1,8 +1,8 @@
 -- Paper 02, 7/14: a character and what is read of it as a digit, its value and its case, are one to one. `read_digit`
 -- promises `OneToOne`.
-use Rattle.std.specs.Prelude.{ℕ, zero, suc, ◌+◌, Bool, true, false, cond, ◌&&◌, ◌||◌, List, [], ◌∷◌, ◌++◌, ◌≡◌, ltb, leb, eqb}
+use Rattle.std.specs.Prelude.{ℕ, zero, suc, ◌+◌, Bool, true, false, cond, ◌&&◌, ◌||◌, List, [], ◌∷◌, ◌++◌, ◌≡◌, ltb, leb, eqb, Option, Some, None}
 use Rattle.digits.specs.declared.Digit.{Digit}
-use Rattle.digits.specs.declared.Digit.TheVariants.{Other, Capital, Small}
+use Rattle.digits.specs.declared.Digit.TheVariants.{Capital, Small}
 use Rattle.digits.specs.Digits.{digit_of, capital_of}
 
 -- ---- The characters that are digits
@@ -22,19 +22,19 @@ is_one c [] = false
 is_one c (x ∷ xs) = eqb c x || is_one c xs
 
 -- Whether a digit was read.
-abbrev pub is_digit : Digit → Bool
-is_digit Other = false
-is_digit (Capital v) = true
-is_digit (Small v) = true
+abbrev pub is_digit : Option Digit → Bool
+is_digit None = false
+is_digit (Some (Capital v)) = true
+is_digit (Some (Small v)) = true
 
 -- ---- A value and a case
 
 -- Their character, if they have one. 0 to 9 have no case: they are told as capitals, and no small letter has their
 -- values.
-abbrev pub spelt : Digit → List ℕ
-spelt Other = []
-spelt (Capital v) = cond (ltb v 16) (capital_of v ∷ []) []
-spelt (Small v) = cond (leb 10 v && ltb v 16) ((87 + v) ∷ []) []
+abbrev pub spelt : Option Digit → List ℕ
+spelt None = []
+spelt (Some (Capital v)) = cond (ltb v 16) (capital_of v ∷ []) []
+spelt (Some (Small v)) = cond (leb 10 v && ltb v 16) ((87 + v) ∷ []) []
 
 pub record OneToOne : Type 0 where
   -- the 22 characters are digits, and no other is
@@ -42,6 +42,6 @@ pub record OneToOne : Type 0 where
   -- what is read of one stands for that very character
   pub own : (c : ℕ) → is_digit (digit_of c) ≡ true → spelt (digit_of c) ≡ c ∷ []
   -- a value and a case that stand for a character are what is read of it, and so no others stand for it
-  pub one : (d : Digit) (c : ℕ) → spelt d ≡ c ∷ [] → digit_of c ≡ d
+  pub one : (d : Option Digit) (c : ℕ) → spelt d ≡ c ∷ [] → digit_of c ≡ d
   -- two characters that are read alike are the same: those that differ in case alone are two
   pub apart : (c e : ℕ) → is_digit (digit_of c) ≡ true → digit_of c ≡ digit_of e → c ≡ e

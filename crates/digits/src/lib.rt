@@ -2,8 +2,8 @@
 // Every public function is total: it has no premise and states its result for every input. Assumes nothing.
 #![tactic(auto)]
 
-ghost use Rattle.std.specs.Prelude.{◌≡◌};
-ghost use Rattle.digits.specs.Digits.{five_digits, digit_of, capital_of, six_of, join_of, number_of, Under};
+ghost use Rattle.std.specs.Prelude.{◌≡◌, ◌<◌};
+ghost use Rattle.digits.specs.Digits.{five_digits, digit_of, capital_of, six_of, join_of, number_of};
 ghost use Rattle.digits.specs.Characters.{OneToOne};
 
 // What four, five and six digits count to.
@@ -17,61 +17,40 @@ pub const TOP_BIT: u32 = 524288;
 // Byte 0D, which ends a line and a block.
 pub const END: u8 = 13;
 
-// What a character is as a digit. The case is told beside the value: data digits ignore it, and an
-// identification is returned as the very character.
-#[derive(Drop)]
+// A hexadecimal digit with its value. The case is told beside the value: data digits ignore it, and an identification
+// is returned as the very character.
+#[derive(Clone, Copy)]
 pub enum Digit {
-    // Not 0-9, A-F or a-f.
-    Other,
-    // 0-9 or A-F, with its value.
+    // 0-9 or A-F.
     Capital(u8),
-    // a-f, with its value.
+    // a-f.
     Small(u8),
 }
 
-// What a row of characters is as a number.
-#[derive(Drop)]
-pub enum Number {
-    // Some character is no digit.
-    NotDigits,
-    // The number, and whether some letter is small.
-    Value { number: u32, small: bool },
-}
-
-// The identification of a line or a block (chapter 9): none, or the very character.
+// What a row of digits is as a number, and whether some letter is small.
 #[derive(Clone, Copy)]
-pub enum Ident {
-    Absent,
-    Given(u8),
+pub struct Number {
+    pub value: u32,
+    pub small: bool,
 }
 
-// The character as a digit. That value and case stand for this very character and no other is promised here.
-pub fn read_digit(c: u8) -> Digit
+// The character as a digit; none if it is not 0-9, A-F or a-f. That value and case stand for this very character and no
+// other is promised here.
+#[tactic(auto, using(crate::proofs::CharacterLaws::one_to_one))]
+pub fn read_digit(c: u8) -> Option<Digit>
     ensures value { result ≡ digit_of c }
     ensures one_to_one { OneToOne }
 {
-    if c < 48 {
-        return Digit::Other;
+    match c {
+        b'0'..=b'9' => Some(Digit::Capital(c - b'0')),
+        b'A'..=b'F' => Some(Digit::Capital(c - b'A' + 10)),
+        b'a'..=b'f' => Some(Digit::Small(c - b'a' + 10)),
+        _ => None,
     }
-    if c < 58 {
-        return Digit::Capital(c - 48);
-    }
-    if c < 65 {
-        return Digit::Other;
-    }
-    if c < 71 {
-        return Digit::Capital(c - 55);
-    }
-    if c < 97 {
-        return Digit::Other;
-    }
-    if c < 103 {
-        return Digit::Small(c - 87);
-    }
-    Digit::Other
 }
 
 // The capital digit of the low four bits.
+// By hand: `write!` would give a Result that never fails.
 pub fn capital(v: u8) -> u8
     ensures { result ≡ capital_of v }
 {
@@ -97,41 +76,33 @@ pub fn six_capitals(n: u32) -> [u8; 6]
 }
 
 // The number read so far with one digit more.
-fn join(prefix: Number, c: u8) -> Number
-    requires { Under five_digits prefix }
-    ensures { result ≡ join_of prefix c }
+fn join(prefix: Number, c: u8) -> Option<Number>
+    requires { prefix.value < five_digits }
+    ensures { result ≡ join_of (Some prefix) c }
 {
-    match prefix {
-        Number::NotDigits => Number::NotDigits,
-        Number::Value { number, small } => {
-            let d = read_digit(c);
-            match d {
-                Digit::Other => Number::NotDigits,
-                Digit::Capital(v) => Number::Value {
-                    number: number * 16 + v as u32,
-                    small,
-                },
-                Digit::Small(v) => Number::Value {
-                    number: number * 16 + v as u32,
-                    small: true,
-                },
-            }
-        }
-    }
+    let number = match read_digit(c)? {
+        Digit::Capital(v) => Number {
+            value: prefix.value * 16 + v as u32,
+            small: prefix.small,
+        },
+        Digit::Small(v) => Number {
+            value: prefix.value * 16 + v as u32,
+            small: true,
+        },
+    };
+    Some(number)
 }
 
-// Six characters as a number, the highest digit first.
-pub fn read_six(cs: [u8; 6]) -> Number
+// Six characters as a number, the highest digit first; none where some character is no digit.
+pub fn read_six(cs: [u8; 6]) -> Option<Number>
     ensures { result ≡ number_of cs }
 {
-    let none = Number::Value {
-        number: 0,
+    let mut number = Number {
+        value: 0,
         small: false,
     };
-    let one = join(none, cs[0]);
-    let two = join(one, cs[1]);
-    let three = join(two, cs[2]);
-    let four = join(three, cs[3]);
-    let five = join(four, cs[4]);
-    join(five, cs[5])
+    for c in cs {
+        number = join(number, c)?;
+    }
+    Some(number)
 }

@@ -1,19 +1,16 @@
 -- Bench figures (paper 01, "Host end and program", "Turned away" 21), in terms of the library on IEEE 754. A Float is
 -- nan, inf or fin s m e: m * 2^e, minus where s is true. `round binary64 false a c` is the f64 nearest to a / c, and
 -- `HasValue x false a c` says that x is a / c exactly.
-use Rattle.std.specs.Prelude.{◌≡◌, ℕ, ◌*◌, ◌/◌, ◌%◌, ◌<◌, ◌≤◌, Bool, true, false, ◌&&◌, List, [], ◌∷◌, map, ◌==◌, ◌≢◌, nat_le, Float}
+use Rattle.std.specs.Prelude.{◌≡◌, ℕ, ◌*◌, ◌/◌, ◌%◌, ◌<◌, ◌≤◌, Bool, true, false, ◌&&◌, List, [], ◌∷◌, map, ◌==◌, ◌≢◌, nat_le, Float, Result, Ok, Err}
 use Rattle.std.specs.Float.{nan, inf, fin, binary64}
 use Rattle.std.specs.Float.Ieee.{up, down, round}
 use Rattle.std.specs.Float.Ieee.Exact.{HasValue}
 use Rattle.line.specs.Ranges.{top_speed, top_slope}
 use Rattle.line.specs.declared.command.Command.{Command}
 use Rattle.line.specs.declared.command.Command.TheVariants as Line
-use Rattle.figures.specs.declared.Units.{Units}
-use Rattle.figures.specs.declared.Units.TheVariants.{Count, Refused}
+use Rattle.figures.specs.declared.NotExact.{NotExact}
 use Rattle.figures.specs.declared.Setting.{Setting}
 use Rattle.figures.specs.declared.Setting.TheVariants.{Speed, Slope}
-use Rattle.figures.specs.declared.Asked.{Asked}
-use Rattle.figures.specs.declared.Asked.TheVariants as Ask
 use Rattle.figures.specs.declared.Figures.{Figures}
 
 -- "n units are exactly n/4 or 5n/4": r is the f64 nearest to a / c, and nothing was lost in the rounding.
@@ -43,14 +40,18 @@ given v = record { number = 0; values = v ∷ [] }
 abbrev pub turned : {A : Type 0} → ℕ → Answer A
 turned n = record { number = n; values = [] }
 
--- The paper's number and values for each case of a figure in units, and of a setting's command.
-abbrev pub count_of : Units → Answer ℕ
-count_of (Count n) = given n
-count_of (Refused k) = turned k
+-- The number of a figure that is not exact, or out of range.
+abbrev pub number_of : NotExact → ℕ
+number_of e = 21
 
-abbrev pub asked_of : Asked → Answer Command
-asked_of (Ask.Command c) = given c
-asked_of (Ask.Refused k) = turned k
+-- The paper's number and values for each case of a figure in units, and of a setting's command.
+abbrev pub count_of : Result ℕ NotExact → Answer ℕ
+count_of (Ok n) = given n
+count_of (Err e) = turned (number_of e)
+
+abbrev pub asked_of : Result Command NotExact → Answer Command
+asked_of (Ok c) = given c
+asked_of (Err e) = turned (number_of e)
 
 -- ---- the reverse reading
 

@@ -9,6 +9,7 @@ ghost use Rattle.line.specs.Ranges.{top_speed, top_slope};
 ghost use Rattle.controller.specs.Reach.{Reachable, Made};
 ghost use Rattle.figures.specs.Figures.{
   Exactly,
+  number_of,
   UnitIs,
   count_of,
   asked_of,
@@ -35,14 +36,18 @@ const SLOPE: u8 = 9;
 const SLOPE_UNIT: f64 = 1.25;
 // The largest u32.
 const LARGEST: f64 = 4294967295.0;
-// "Turned away" 21.
-const NOT_EXACT: u8 = 21;
 
-// What a figure is in units: so many, or 21.
-#[derive(Drop)]
-pub enum Units {
-    Count(u32),
-    Refused(u8),
+// A figure that is no whole number of units, or out of range.
+#[derive(Clone, Copy, PartialEq, Eq)]
+pub struct NotExact;
+
+// "Turned away" 21.
+impl From<NotExact> for u8 {
+    ghost from_gives = { λ e number. number ≡ number_of e };
+
+    fn from(_e: NotExact) -> u8 {
+        21
+    }
 }
 
 // A setting as the bench has it: in hertz, or in hertz per ms.
@@ -50,13 +55,6 @@ pub enum Units {
 pub enum Setting {
     Speed(f64),
     Slope(f64),
-}
-
-// The P command of a setting, or 21.
-#[derive(Drop)]
-pub enum Asked {
-    Command(Command),
-    Refused(u8),
 }
 
 // Speed in hertz and slope in hertz per ms, shown together.
@@ -81,21 +79,21 @@ pub fn slope_hz_per_ms(n: u32) -> f64
 }
 
 // The figure in units. The quotient, which may be rounded, only proposes a number; the last test decides.
-fn read_units(x: f64, unit: f64, most: u32) -> Units
+fn read_units(x: f64, unit: f64, most: u32) -> Result<u32, NotExact>
     ensures { (a : ℕ) → UnitIs unit a → count_of result ≡ units_of a 4 most x }
 {
     let y = x / unit;
     if y >= 1.0 && y <= LARGEST {
         let n = std::num::truncating_f64_to_u64(y) as u32;
         if n <= most && n as f64 * unit == x {
-            return Units::Count(n);
+            return Ok(n);
         }
     }
-    Units::Refused(NOT_EXACT)
+    Err(NotExact)
 }
 
 // A speed in hertz, read back.
-pub fn speed_units(x: f64) -> Units
+pub fn speed_units(x: f64) -> Result<u32, NotExact>
     ensures result_value { count_of result ≡ speed_units x }
     ensures read_back { ReadBack speed_hz top_speed x (count_of result) }
 {
@@ -103,7 +101,7 @@ pub fn speed_units(x: f64) -> Units
 }
 
 // A slope in hertz per ms, read back.
-pub fn slope_units(x: f64) -> Units
+pub fn slope_units(x: f64) -> Result<u32, NotExact>
     ensures result_value { count_of result ≡ slope_units x }
     ensures read_back { ReadBack slope_hz top_slope x (count_of result) }
 {
@@ -111,25 +109,20 @@ pub fn slope_units(x: f64) -> Units
 }
 
 // The P command that makes the setting.
-pub fn command_of(s: Setting) -> Asked
+pub fn command_of(s: Setting) -> Result<Command, NotExact>
     ensures { asked_of result ≡ command_of s }
 {
-    match s {
-        Setting::Speed(x) => match speed_units(x) {
-            Units::Count(n) => Asked::Command(Command::Set {
-                code: SPEED,
-                value: n,
-            }),
-            Units::Refused(k) => Asked::Refused(k),
+    let command = match s {
+        Setting::Speed(x) => Command::Set {
+            code: SPEED,
+            value: speed_units(x)?,
         },
-        Setting::Slope(x) => match slope_units(x) {
-            Units::Count(n) => Asked::Command(Command::Set {
-                code: SLOPE,
-                value: n,
-            }),
-            Units::Refused(k) => Asked::Refused(k),
+        Setting::Slope(x) => Command::Set {
+            code: SLOPE,
+            value: slope_units(x)?,
         },
-    }
+    };
+    Ok(command)
 }
 
 // The speed and slope settings of a controller.

@@ -7,14 +7,13 @@ use mathlib.Core.Path.{◌≡◌}
 use borrow.Author.Tests.{lt-ltb, le-leb, lt-leb}
 use Rattle.digits.specs.Digits.{four_digits}
 use Rattle.line.specs.declared.command.Command.TheVariants as C
-use Rattle.line.specs.declared.Judged.TheVariants.{Accepted}
-use Rattle.line.specs.Line.{judge_row, judge_value}
+use Rattle.line.specs.Line.{judge_row, judge_value, accepting}
 use Rattle.host.specs.Writer.{letter_of, digits_of}
 use Rattle.host.proofs.Contents.{code_back, five_back}
 
 pub accept_start : (k : ℕ) (waits : Bool) → k < 5
     → judge_value (letter_of (C.Start k waits)) 6 (digits_of (C.Start k waits))
-    ≡ Accepted (C.Start k waits) (digits_of (C.Start k waits))
+    ≡ accepting (C.Start k waits) (digits_of (C.Start k waits))
 unfolding judge_row
 accept_start k true h =
     let e = code_back 8 ((8 + k) * four_digits) (omega arith) in

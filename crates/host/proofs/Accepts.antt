@@ -11,10 +11,9 @@ use Rattle.line.specs.declared.command.Reading.{Reading}
 use Rattle.line.specs.declared.command.Reading.TheVariants as R
 use Rattle.line.specs.declared.command.Command.{Command}
 use Rattle.line.specs.declared.command.Command.TheVariants as C
-use Rattle.line.specs.declared.Judged.TheVariants.{Accepted}
 use Rattle.line.specs.Ranges.{top_speed, reading_fits}
 use Rattle.line.specs.Codes.{is_inputs, is_query}
-use Rattle.line.specs.Line.{judge_row, judge_value}
+use Rattle.line.specs.Line.{judge_row, judge_value, accepting}
 use Rattle.line.specs.Fits.{CommandFits}
 use Rattle.line.proofs.Ranges.{axis, distance, outputs, bits_low, by_order, by_setting, is_within_lem}
 use Rattle.host.specs.Writer.{letter_of, digits_of}
@@ -23,7 +22,7 @@ use Rattle.host.proofs.Contents.{code_back, five_back, minus_low, minus_back, le
 
 -- A command with its letter and six digits, judged.
 abbrev Taken : Command → Type 0
-Taken c = judge_value (letter_of c) 6 (digits_of c) ≡ Accepted c (digits_of c)
+Taken c = judge_value (letter_of c) 6 (digits_of c) ≡ accepting c (digits_of c)
 
 accept_distance : (k : ℕ) (minus : Bool) (d : ℕ) → k < 5 → d < top_bit → Taken (C.Distance k minus d)
 unfolding judge_row

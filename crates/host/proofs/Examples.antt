@@ -1,10 +1,10 @@
 -- Worked examples of lines written and masters picked, by computation. Assumes nothing.
+use Rattle.std.proofs.Common.{None, Some}
 use mathlib.Core.Bool.{true, false}
 use mathlib.Core.List.{[], ◌∷◌, ◌++◌}
 use mathlib.Core.Path.{◌≡◌, refl}
 use lib.ListN.{replicate}
 use Rattle.digits.specs.Digits.{six_of}
-use Rattle.digits.specs.declared.Ident.TheVariants.{Absent, Given}
 use Rattle.block.specs.Block.{block_of, over}
 use Rattle.line.specs.declared.command.Reading.TheVariants as R
 use Rattle.line.specs.declared.command.Command.TheVariants as C
@@ -14,19 +14,19 @@ use Rattle.host.specs.Master.{master_of}
 use Rattle.host.specs.Writer.{line_of, line, refused, written_of, buffer_of}
 
 abbrev query : Request
-query = record { silent = false; command = C.Read R.Inputs; ident = Absent }
+query = record { silent = false; command = C.Read R.Inputs; ident = None }
 
 abbrev named : Request
-named = record { silent = false; command = C.Read R.Inputs; ident = Given 49 }
+named = record { silent = false; command = C.Read R.Inputs; ident = Some 49 }
 
 abbrev minus_zero : Request
-minus_zero = record { silent = true; command = C.Distance 0 true 0; ident = Given 55 }
+minus_zero = record { silent = true; command = C.Distance 0 true 0; ident = Some 55 }
 
 abbrev carry_on : Request
-carry_on = record { silent = false; command = C.Order 12; ident = Absent }
+carry_on = record { silent = false; command = C.Order 12; ident = None }
 
 abbrev too_fast : Request
-too_fast = record { silent = false; command = C.Set 8 1000001; ident = Absent }
+too_fast = record { silent = false; command = C.Set 8 1000001; ident = None }
 
 pub record Examples : Type 0 where
   pub query_line : line_of query ≡ chars "W0" ++ (13 ∷ [])

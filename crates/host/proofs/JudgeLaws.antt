@@ -1,5 +1,8 @@
 -- Of an accepted line: its command is in range, and its identification is one that the writer writes with it. A line
 -- turned away is answered with one too. Assumes nothing.
+use Rattle.line.specs.declared.Accepted.{Accepted}
+use Rattle.line.specs.declared.Refusal.{Refusal}
+use Rattle.std.proofs.Common.{Option, None, Some, Result, Ok, Err}
 use Prim.Native.Nat.{ℕ, ◌-◌, min}
 use native.Mathlib.Omega.{arith}
 use mathlib.Core.Bool.{Bool, true, false, cond, false≢true}
@@ -8,37 +11,33 @@ use mathlib.Core.Path.{◌≡◌, refl, sym, ap, subst, ◌∙◌}
 use lib.ListN.{length}
 use Rattle.laws.proofs.Pick.{by_lt, by_eq}
 use Rattle.digits.specs.Digits.{digit_of, number_of}
-use Rattle.digits.specs.declared.Ident.{Ident}
-use Rattle.digits.specs.declared.Ident.TheVariants.{Absent, Given}
 use Rattle.line.specs.declared.command.Reading.TheVariants as R
 use Rattle.line.specs.declared.command.Command.{Command}
 use Rattle.line.specs.declared.command.Command.TheVariants as C
-use Rattle.line.specs.declared.Judged.{Judged}
-use Rattle.line.specs.declared.Judged.TheVariants.{Accepted, Refused}
 use Rattle.line.specs.Codes.{row_of, is_query}
-use Rattle.line.specs.Line.{char_at, is_ident, value_of, ident_of, digit_count, digit_chars, judge_of}
+use Rattle.line.specs.Line.{char_at, is_ident, value_of, ident_of, digit_count, digit_chars, judge_of, accepting, refusal_number}
 use Rattle.line.specs.Fits.{CommandFits, AcceptedFits, JudgedFits}
 use Rattle.line.proofs.Cases.{by_row, by_judge}
 use Rattle.line.proofs.Fits.{owned, judge_fits}
 use Rattle.reply.specs.Reply.{refusal_ident}
 use Rattle.host.specs.Writer.{ident_fits, is_absent}
 
-pub accepted_fits : (cs : List ℕ) (c : Command) (digits : ℕ) → judge_of cs ≡ Accepted c digits → CommandFits c
+pub accepted_fits : (cs : List ℕ) (c : Command) (digits : ℕ) → judge_of cs ≡ accepting c digits → CommandFits c
 accepted_fits cs c digits e =
     let f : AcceptedFits c digits = subst JudgedFits e (judge_fits cs) in
     f.command
 
 ident_fits_lem : (cs : List ℕ) → is_ident (digit_of (char_at cs 8)) ≡ true → ident_fits (ident_of cs) ≡ true
-ident_fits_lem cs e = by_eq (λ (i : Ident). ident_fits i ≡ true) (length cs) 9 _ _ (λ _. e) (λ _. refl)
+ident_fits_lem cs e = by_eq (λ (i : Option ℕ). ident_fits i ≡ true) (length cs) 9 _ _ (λ _. e) (λ _. refl)
 
 -- That which a line turned away is answered with.
-pub named_late : (ident : Ident) (n : ℕ) → ident_fits ident ≡ true → ident_fits (refusal_ident n ident) ≡ true
-named_late ident n e = by_lt (λ (i : Ident). ident_fits i ≡ true) n 8 Absent ident (λ _. refl) (λ _. e)
+pub named_late : (ident : Option ℕ) (n : ℕ) → ident_fits ident ≡ true → ident_fits (refusal_ident n ident) ≡ true
+named_late ident n e = by_lt (λ (i : Option ℕ). ident_fits i ≡ true) n 8 None ident (λ _. refl) (λ _. e)
 
 -- Of an accepted line it is one, and a query has no digits; a line turned away is answered with one.
-abbrev pub Named : Ident → ℕ → Judged → Type 0
-Named ident count (Accepted c n) = (ident_fits ident ≡ true) × (is_query c ≡ true → count ≡ 0)
-Named ident count (Refused n) = ident_fits (refusal_ident n ident) ≡ true
+abbrev pub Named : Option ℕ → ℕ → Result Accepted Refusal → Type 0
+Named ident count (Ok a) = (ident_fits ident ≡ true) × (is_query a.command ≡ true → count ≡ 0)
+Named ident count (Err r) = ident_fits (refusal_ident (refusal_number r) ident) ≡ true
 
 pub line_named : (cs : List ℕ) → Named (ident_of cs) (digit_count cs) (judge_of cs)
 line_named cs =
@@ -54,13 +53,13 @@ line_named cs =
 -- A line with no digits has no identification.
 bare_absent : (cs : List ℕ) → digit_count cs ≡ 0 → is_absent (ident_of cs) ≡ true
 bare_absent cs e =
-    by_eq (λ (i : Ident). is_absent i ≡ true) (length cs) 9 _ _ (λ l. absurd (none l)) (λ _. refl)
+    by_eq (λ (i : Option ℕ). is_absent i ≡ true) (length cs) 9 _ _ (λ l. absurd (none l)) (λ _. refl)
   where
     none : length cs ≡ 9 → ⊥
     none l = let six : ◌≡◌ {A = ℕ} 0 6 = sym e ∙ ap (λ (x : ℕ). min 6 (x - 2)) l in omega arith
 
 -- The identification of an accepted line is one that the writer writes with its command.
-pub accepted_named : (cs : List ℕ) (c : Command) (digits : ℕ) → judge_of cs ≡ Accepted c digits
+pub accepted_named : (cs : List ℕ) (c : Command) (digits : ℕ) → judge_of cs ≡ accepting c digits
     → cond (is_query c) (is_absent (ident_of cs)) (ident_fits (ident_of cs)) ≡ true
 accepted_named cs c digits e = when (is_query c) refl
   where
@@ -73,9 +72,9 @@ accepted_named cs c digits e = when (is_query c) refl
 
 -- ---- a W query is one command, and an absent identification one identification
 
-pub absent_is : (ident : Ident) → is_absent ident ≡ true → ident ≡ Absent
-absent_is Absent e = refl
-absent_is (Given x) e = absurd (false≢true e)
+pub absent_is : (ident : Option ℕ) → is_absent ident ≡ true → ident ≡ None
+absent_is None e = refl
+absent_is (Some x) e = absurd (false≢true e)
 
 pub query_is : (c : Command) → is_query c ≡ true → c ≡ C.Read R.Inputs
 query_is (C.Distance k minus d) e = absurd (false≢true e)

@@ -1,4 +1,9 @@
 -- What the writer promises of every request and of every line: the trip of lines and its converse. Assumes nothing.
+use Rattle.line.specs.declared.Accepted.{Accepted}
+use Rattle.line.specs.declared.Refusal.{Refusal}
+use Rattle.receiver.specs.declared.Line.{Line}
+use Rattle.receiver.specs.Receiver.{line_heard}
+use Rattle.std.proofs.Common.{Option, Some, None, Result, Ok}
 use Prim.Native.Nat.{ℕ, zero, suc, ◌-◌, ◌≤◌}
 use native.Mathlib.Omega.{arith}
 use mathlib.Core.Bool.{Bool, true, false, cond, not, false≢true}
@@ -9,19 +14,13 @@ use lib.Dec.{ltb}
 use lib.ListN.{length, get_or}
 use Rattle.laws.proofs.Tests.{both}
 use Rattle.digits.specs.Characters.{digit_characters, is_one}
-use Rattle.digits.specs.declared.Ident.{Ident}
-use Rattle.digits.specs.declared.Ident.TheVariants.{Given}
 use Rattle.digits.proofs.CharacterLaws.{one_to_one}
 use Rattle.block.proofs.Blocks.{block_given}
 use Rattle.block.proofs.Named.{block_ninth}
 use Rattle.line.specs.declared.command.Command.{Command}
-use Rattle.line.specs.declared.Judged.{Judged}
-use Rattle.line.specs.declared.Judged.TheVariants.{Accepted}
 use Rattle.line.specs.Codes.{is_query}
 use Rattle.line.specs.Ranges.{fits}
-use Rattle.line.specs.Line.{silent_of, ident_of, judge_of}
-use Rattle.receiver.specs.declared.Heard.{Heard}
-use Rattle.receiver.specs.declared.Heard.TheVariants.{Character, Line}
+use Rattle.line.specs.Line.{silent_of, ident_of, judge_of, accepting}
 use Rattle.host.specs.declared.Request.{Request}
 use Rattle.host.specs.Writer.{
   letter_of,
@@ -45,38 +44,45 @@ use Rattle.host.proofs.MachineTrip.{machine_trip}
 
 -- ---- what a heard line tells
 
-silent_told : {a b : Bool} {i j : Ident} {x y : Judged} → Line a i x ≡ Line b j y → a ≡ b
-silent_told e = cc
+line_told : {k l : Line} → Some k ≡ Some l → k ≡ l
+line_told e = cc
 
-ident_told : {a b : Bool} {i j : Ident} {x y : Judged} → Line a i x ≡ Line b j y → i ≡ j
-ident_told e = cc
+accepted_told : {a b : Accepted} → ◌≡◌ {A = Result Accepted Refusal} (Ok a) (Ok b) → a ≡ b
+accepted_told e = cc
 
-judged_told : {a b : Bool} {i j : Ident} {x y : Judged} → Line a i x ≡ Line b j y → x ≡ y
-judged_told e = cc
+module _ {a b : Bool} {i j : Option ℕ} {x y : Result Accepted Refusal} (e : line_heard a i x ≡ line_heard b j y) where
+  silent_told : a ≡ b
+  silent_told = ap (λ (l : Line). l.silent) (line_told e)
 
-command_told : {c d : Command} {m n : ℕ} → Accepted c m ≡ Accepted d n → c ≡ d
-command_told e = cc
+  ident_told : i ≡ j
+  ident_told = ap (λ (l : Line). l.ident) (line_told e)
 
-end_told : (n : ℕ) (x y : Heard) → ended_after n x ≡ ended_after n y → x ≡ y
+  judged_told : x ≡ y
+  judged_told = ap (λ (l : Line). l.judged) (line_told e)
+
+command_told : {c d : Command} {m n : ℕ} → accepting c m ≡ accepting d n → c ≡ d
+command_told e = ap (λ (a : Accepted). a.command) (accepted_told e)
+
+end_told : (n : ℕ) (x y : Option Line) → ended_after n x ≡ ended_after n y → x ≡ y
 end_told zero x y e = cc
 end_told (suc n) x y e = end_told n x y (rest e)
   where
-    rest : {k l : List Heard} → Character ∷ k ≡ Character ∷ l → k ≡ l
+    rest : {k l : List (Option Line)} → None ∷ k ≡ None ∷ l → k ≡ l
     rest e = cc
 
 -- ---- the trip
 
 has_named : (silent : Bool) (c : Command) (x : ℕ) → fits c ≡ true → is_query c ≡ false
-    → has_line (record { silent = silent; command = c; ident = Given x }) ≡ is_one x digit_characters
+    → has_line (record { silent = silent; command = c; ident = Some x }) ≡ is_one x digit_characters
 has_named silent c x f q = rw (f, q) (one_to_one.digits x)
 
 -- A line with an identification has ten bytes, that character before its 0D: no query has one.
-pub ninth_of : (r : Request) (x : ℕ) → has_line r ≡ true → r.ident ≡ Given x
+pub ninth_of : (r : Request) (x : ℕ) → has_line r ≡ true → r.ident ≡ Some x
     → (length (line_of r) ≡ 10) × (get_or (line_of r) 8 0 ≡ x)
 unfolding line_of
 ninth_of r x e i = when (is_query r.command) (both (fits r.command) _ e).1
   where
-    full : Ident → List ℕ
+    full : Option ℕ → List ℕ
     full ident = full_of r.silent (letter_of r.command) (digits_of r.command) ident
 
     when : (q : Bool) → cond q (is_absent r.ident) (ident_fits r.ident) ≡ true
@@ -85,7 +91,7 @@ ninth_of r x e i = when (is_query r.command) (both (fits r.command) _ e).1
     when true f = absurd (false≢true (ap is_absent (sym i) ∙ f))
     when false f = (
       block_given _ x i,
-      ap (λ (y : Ident). get_or (full y) 8 0) i
+      ap (λ (y : Option ℕ). get_or (full y) 8 0) i
           ∙ block_ninth (letter_of r.command) (switch_of r.silent) (digits_of r.command) x,
     )
 
@@ -100,7 +106,7 @@ two_lines r q f g e =
       ident = ident_told h i;
     }
   where
-    told : Request → Heard
+    told : Request → Option Line
     told x = heard_as x (digits_of x.command)
 
 pub line_trip : LineTrip
@@ -115,7 +121,7 @@ line_trip = record {
 
 -- ---- the converse
 
-has_line_lem : (cs : List ℕ) (c : Command) (digits : ℕ) → judge_of cs ≡ Accepted c digits
+has_line_lem : (cs : List ℕ) (c : Command) (digits : ℕ) → judge_of cs ≡ accepting c digits
     → has_line (request_in cs c) ≡ true
 has_line_lem cs c digits e = rw (accepted_fits cs c digits e) (accepted_named cs c digits e)
 
@@ -124,7 +130,7 @@ asked_has : (r : Request) → Asked r → has_line r ≡ true
 asked_has r a =
     let s : silent_of a.chars ≡ r.silent = silent_told a.heard in
     let i : ident_of a.chars ≡ r.ident = ident_told a.heard in
-    let j : judge_of a.chars ≡ Accepted r.command a.digits = judged_told a.heard in
+    let j : judge_of a.chars ≡ accepting r.command a.digits = judged_told a.heard in
     sym (λ k. has_line (record { silent = s k; command = r.command; ident = i k }))
     ∙ has_line_lem a.chars r.command a.digits j
 
@@ -157,7 +163,3 @@ line_back = record {
   without = without;
   only = only;
 }
-
--- What a return answers, with both.
-pub promised : {A B : Type 0} → A × B → A × (B × (LineTrip × LineBack))
-promised e = (e.0, (e.1, (line_trip, line_back)))

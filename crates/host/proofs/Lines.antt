@@ -1,5 +1,6 @@
 -- The line of every request that has one, as characters: none of them is 0D, and they are judged as the same command,
 -- silent or not, with the same identification. Assumes nothing.
+use Rattle.std.proofs.Common.{Option, None, Some}
 use Prim.Native.Nat.{ℕ, ◌+◌, ◌/◌, ◌%◌, ◌<◌}
 use native.Mathlib.Omega.{arith}
 use mathlib.Core.Bool.{Bool, true, false, cond, false≢true}
@@ -9,21 +10,17 @@ use borrow.Author.Tests.{ne_eqb}
 use lib.Dec.{ltb, eqb}
 use Rattle.laws.proofs.Pick.{by_lt, by_bool}
 use Rattle.digits.specs.Digits.{four_digits, five_digits, six_digits, digit_of, capital_of, six_of, number_of}
-use Rattle.digits.specs.declared.Ident.{Ident}
-use Rattle.digits.specs.declared.Ident.TheVariants.{Absent, Given}
 use Rattle.digits.proofs.Six.{six_number}
 use Rattle.block.specs.Block.{block_of}
 use Rattle.line.specs.declared.command.Reading.TheVariants as R
 use Rattle.line.specs.declared.command.Command.{Command}
 use Rattle.line.specs.declared.command.Command.TheVariants as C
-use Rattle.line.specs.declared.Judged.TheVariants.{Accepted}
 use Rattle.line.specs.Ranges.{fits}
 use Rattle.line.specs.Codes.{letter_p, letter_q, letterq, letter_w, is_query}
-use Rattle.line.specs.Line.{is_letter, is_ident, judge_row, judge_value, judge_of}
+use Rattle.line.specs.Line.{is_letter, is_ident, judge_row, judge_value, judge_of, accepting}
 use Rattle.line.specs.Fits.{CommandFits}
 use Rattle.laws.proofs.Tests.{both}
-use Rattle.receiver.specs.declared.Heard.TheVariants.{Line}
-use Rattle.receiver.specs.Receiver.{heard_line}
+use Rattle.receiver.specs.Receiver.{heard_line, line_heard}
 use Rattle.host.specs.declared.Request.{Request}
 use Rattle.host.specs.Writer.{
   letter_of,
@@ -118,13 +115,13 @@ module _ (letter n : ℕ) (low : n < six_digits) (known : is_letter letter ≡ t
 -- ---- the whole line heard
 
 -- The bytes are characters and a 0D, and the characters are this line.
-pub record Lined (bytes : List ℕ) (silent : Bool) (ident : Ident) (c : Command) (n : ℕ) : Type 0 where
+pub record Lined (bytes : List ℕ) (silent : Bool) (ident : Option ℕ) (c : Command) (n : ℕ) : Type 0 where
   pub chars : List ℕ
   pub ended : bytes ≡ chars ++ (13 ∷ [])
   pub no_end : NoEnd chars
-  pub heard : heard_line chars ≡ Line silent ident (Accepted c n)
+  pub heard : heard_line chars ≡ line_heard silent ident (accepting c n)
 
-query_lined : (silent : Bool) → Lined (query_of silent) silent Absent (C.Read R.Inputs) 0
+query_lined : (silent : Bool) → Lined (query_of silent) silent None (C.Read R.Inputs) 0
 unfolding judge_of judge_row number_of
 query_lined true =
     record { chars = letter_w ∷ 52 ∷ []; ended = refl; no_end = (refl, (refl, omega arith)); heard = refl }
@@ -133,46 +130,46 @@ query_lined false =
 
 module _ (c : Command) (fits : CommandFits c) (full : is_query c ≡ false) where
   judged : (cs : List ℕ) → judge_of cs ≡ judge_value (letter_of c) 6 (digits_of c)
-      → judge_of cs ≡ Accepted c (digits_of c)
+      → judge_of cs ≡ accepting c (digits_of c)
   judged cs e = e ∙ accepts c fits full
 
   bare_line : (silent : Bool) → heard_line (chars (letter_of c) silent (digits_of c) [])
-      ≡ Line silent Absent (Accepted c (digits_of c))
+      ≡ line_heard silent None (accepting c (digits_of c))
   unfolding six_of
   bare_line true =
-      λ i. Line true Absent (judged _ (judged_bare (letter_of c) (digits_of c) (digits_fit c fits) (letter_is c) true) i)
+      λ i. line_heard true None (judged _ (judged_bare (letter_of c) (digits_of c) (digits_fit c fits) (letter_is c) true) i)
   bare_line false =
-      λ i. Line false Absent
+      λ i. line_heard false None
       (judged _ (judged_bare (letter_of c) (digits_of c) (digits_fit c fits) (letter_is c) false) i)
 
   named_line : (silent : Bool) (x : ℕ) → is_ident (digit_of x) ≡ true
       → heard_line (chars (letter_of c) silent (digits_of c) (x ∷ []))
-      ≡ Line silent (Given x) (Accepted c (digits_of c))
+      ≡ line_heard silent (Some x) (accepting c (digits_of c))
   unfolding six_of
   named_line true x e =
-      λ i. Line true (Given x)
+      λ i. line_heard true (Some x)
       (judged _ (judged_named (letter_of c) (digits_of c) (digits_fit c fits) (letter_is c) true x e) i)
   named_line false x e =
-      λ i. Line false (Given x)
+      λ i. line_heard false (Some x)
       (judged _ (judged_named (letter_of c) (digits_of c) (digits_fit c fits) (letter_is c) false x e) i)
 
-  full_lined : (silent : Bool) (ident : Ident) → ident_fits ident ≡ true
+  full_lined : (silent : Bool) (ident : Option ℕ) → ident_fits ident ≡ true
       → Lined (full_of silent (letter_of c) (digits_of c) ident) silent ident c (digits_of c)
   unfolding block_of six_of
-  full_lined silent Absent e = record {
+  full_lined silent None e = record {
     chars = chars (letter_of c) silent (digits_of c) [];
     ended = refl;
     no_end = chars_no_end c silent (digits_of c) [] (omega arith);
     heard = bare_line silent;
   }
-  full_lined silent (Given x) e = record {
+  full_lined silent (Some x) e = record {
     chars = chars (letter_of c) silent (digits_of c) (x ∷ []);
     ended = refl;
     no_end = chars_no_end c silent (digits_of c) (x ∷ []) (ident_no_end x e, omega arith);
     heard = named_line silent x e;
   }
 
-whole_lined : (silent : Bool) (c : Command) (ident : Ident) (query : Bool) → is_query c ≡ query → CommandFits c
+whole_lined : (silent : Bool) (c : Command) (ident : Option ℕ) (query : Bool) → is_query c ≡ query → CommandFits c
     → cond query (is_absent ident) (ident_fits ident) ≡ true
     → Lined (cond query (query_of silent) (full_of silent (letter_of c) (digits_of c) ident)) silent ident c (digits_of c)
 whole_lined silent c ident true q h e = rw (query_is c q, absent_is ident e) (query_lined silent)

@@ -1,5 +1,7 @@
 -- The round trip of lines over the machine's byte step: a machine with no half-received line, given the bytes of a
 -- request's line one by one, is left as the command leaves it, with its reply. Assumes nothing.
+use Rattle.receiver.specs.declared.Line.{Line}
+use Rattle.std.proofs.Common.{Option, None}
 use Prim.Native.Nat.{ℕ, suc, ◌≤◌, ◌<◌}
 use native.Mathlib.Omega.{arith}
 use mathlib.Core.Bool.{Bool, true, false, cond}
@@ -9,8 +11,6 @@ use borrow.Author.Tests.{le-ltb, eq-eqb, ne_eqb}
 use lib.Dec.{eqb}
 use lib.ListN.{length, length-append}
 use Rattle.laws.proofs.Pick.{by_bool}
-use Rattle.receiver.specs.declared.Heard.{Heard}
-use Rattle.receiver.specs.declared.Heard.TheVariants.{Character}
 use Rattle.receiver.specs.Receiver.{Receipt, receive, heard_line}
 use Rattle.machine.specs.State.{Machine, with_line, with_watch}
 use Rattle.machine.specs.Commands.{number, does, awaits, turned}
@@ -41,7 +41,7 @@ module _ (o m : Machine) where
       ∙ ap (λ (x : Receipt). answered (with_line m l) c (outcome_of (with_line m l) x.heard)) character
       ∙ ap (λ (x : Receipt). record { machine = with_line m x.line; reply = []; number = 0 }) character
     where
-      character : receive l c ≡ record { line = l ++ (c ∷ []); heard = Character }
+      character : receive l c ≡ record { line = l ++ (c ∷ []); heard = None }
       character = rw e
 
   end_step : (l buffer : List ℕ) → 120 ≤ length buffer → byte_step (with_line m l) 13 buffer ≡ end_of m l
@@ -85,7 +85,7 @@ module _ (m : Machine) (r : Request) where
 
   pub end_answer : (l : List ℕ) → heard_line l ≡ heard_as r (digits_of r.command) → end_of m l ≡ answer_to m r
   end_answer l e =
-      ap (λ (h : Heard). answered (with_line m l) 13 (outcome_of (with_line m l) h)) e
+      ap (λ (h : Option Line). answered (with_line m l) 13 (outcome_of (with_line m l) h)) e
       ∙ ap (λ (n : ℕ). answered (with_line m l) 13 (comes n)) (number_line m l r.command)
       ∙ by_bool (λ (o : Outcome). answered (with_line m l) 13 o ≡ answered m 13 o) (eqb (number m r.command) 0)
       (accepted r.command (digits_of r.command) r.silent r.ident)

@@ -1,16 +1,16 @@
 -- The picked master is the longest of the five, of equals the lowest, and 0 if all are 0. Assumes nothing.
-use Prim.Native.Nat.{ℕ, zero, suc, ◌≤◌, ◌<◌}
+use Prim.Native.Nat.{ℕ, zero, suc, ◌+◌, ◌≤◌, ◌<◌}
 use native.Mathlib.Omega.{arith}
 use native.Mathlib.Nat.{lt_of_lt_of_le}
-use mathlib.Core.Bool.{Bool, true, false, false≢true}
+use mathlib.Core.Bool.{Bool, true, false, cond, false≢true}
 use mathlib.Core.List.{List}
-use mathlib.Core.Path.{◌≡◌, refl, sym, subst, ◌∙◌}
+use mathlib.Core.Path.{◌≡◌, refl, sym, ◌∙◌}
 use borrow.Author.Tests.{le-ltb, ltb-true, ltb-false, leb-true, leb-false, not-true, not-false}
 use lib.Dec.{ltb, leb}
 use lib.ListN.{get_or}
 use Rattle.laws.specs.Axes.{some}
 use Rattle.laws.proofs.Five.{five}
-use Rattle.laws.proofs.Pick.{by_bool}
+use Rattle.laws.proofs.Pick.{by_bool, by_eq}
 use Rattle.laws.proofs.Some.{none_of}
 use Rattle.host.specs.Master.{is_longest, master_of, Longest}
 
@@ -118,60 +118,57 @@ module _ (d : List ℕ) where
             over_all = λ j. new (leb-false (get_or d (suc n) 0) (get_or d b.axis 0) e) j (leb j n) refl;
           }
 
-  -- The last axis is, where none before it is.
-  last_over : is_longest d 0 ≡ false → is_longest d 1 ≡ false → is_longest d 2 ≡ false → is_longest d 3 ≡ false → Over 4
-  last_over a b c e =
-      five (λ (k : ℕ). Over k → Over 4)
-      (λ o. absurd (false≢true (sym a ∙ is_over 0 o))) (λ o. absurd (false≢true (sym b ∙ is_over 1 o)))
-      (λ o. absurd (false≢true (sym c ∙ is_over 2 o))) (λ o. absurd (false≢true (sym e ∙ is_over 3 o)))
-      (λ o. o) (best 4).axis (let h = (best 4).low in omega arith) (λ j h. (best 4).over_all j (omega arith))
+  -- ---- the lowest axis that is
+
+  -- No axis below k is the longest.
+  abbrev pub Passed : ℕ → Type 0
+  Passed k = (j : ℕ) → j < k → is_longest d j ≡ false
+
+  none_passed : Passed 0
+  none_passed j h = absurd (omega arith)
+
+  pub passed_more : (k : ℕ) → Passed k → is_longest d k ≡ false → Passed (k + 1)
+  passed_more k p e j h =
+      by_eq {A = ℕ} (λ (_ : ℕ). is_longest d j ≡ false) j k 0 0 (λ q. rw q e) (λ q. p j (omega (arith, q)))
+
+  pub first_longest : (k : ℕ) → k < 5 → is_longest d k ≡ true → Passed k → Longest d k
+  first_longest k h e p =
+      record { axis = h; longest = over k e; lowest = λ j l. shorter j k (p j l) (over k e) }
+
+  pub last_is : Passed 4 → is_longest d 4 ≡ true
+  last_is p =
+      is_over 4 (five (λ (k : ℕ). Over k → Over 4) (other 0 (omega arith)) (other 1 (omega arith))
+      (other 2 (omega arith)) (other 3 (omega arith)) (λ o. o) (best 4).axis (let h = (best 4).low in omega arith)
+      (λ j h. (best 4).over_all j (omega arith)))
+    where
+      other : (k : ℕ) → k < 4 → Over k → Over 4
+      other k h o = absurd (false≢true (sym (p k h) ∙ is_over k o))
+
+  pub first_master : (k : ℕ) → k < 5 → is_longest d k ≡ true → Passed k → k ≡ master_of d
+  unfolding master_of
+  first_master =
+      five (λ (k : ℕ). is_longest d k ≡ true → Passed k → k ≡ master_of d)
+      (λ e p. rw e)
+      (λ e p. rw (p 0 (omega arith), e))
+      (λ e p. rw (p 0 (omega arith), p 1 (omega arith), e))
+      (λ e p. rw (p 0 (omega arith), p 1 (omega arith), p 2 (omega arith), e))
+      (λ e p. rw (p 0 (omega arith), p 1 (omega arith), p 2 (omega arith), p 3 (omega arith)))
 
   pub master_longest : Longest d (master_of d)
   unfolding master_of
   master_longest =
-      by_bool (Longest d) (is_longest d 0) 0 _
-      (λ a. record { axis = omega arith; longest = over 0 a; lowest = λ j h. absurd (omega arith) })
-      λ a. by_bool (Longest d) (is_longest d 1) 1 _
-      (λ b. record { axis = omega arith; longest = over 1 b; lowest = below_1 a (over 1 b) })
-      λ b. by_bool (Longest d) (is_longest d 2) 2 _
-      (λ c. record { axis = omega arith; longest = over 2 c; lowest = below_2 a b (over 2 c) })
-      λ b'. by_bool (Longest d) (is_longest d 3) 3 4
-      (λ c. record { axis = omega arith; longest = over 3 c; lowest = below_3 a b b' (over 3 c) })
-      λ c. record {
-        axis = omega arith;
-        longest = last_over a b b' c;
-        lowest = below_4 a b b' c (last_over a b b' c);
-      }
+      pick 0 (omega arith) none_passed
+      λ a. pick 1 (omega arith) a
+      λ b. pick 2 (omega arith) b
+      λ c. pick 3 (omega arith) c
+      λ e. first_longest 4 (omega arith) (last_is e) e
     where
-      below_1 : is_longest d 0 ≡ false → Over 1 → (j : ℕ) → j < 1 → get_or d j 0 < get_or d 1 0
-      below_1 a o zero h = shorter 0 1 a o
-      below_1 a o (suc j) h = absurd (omega arith)
-
-      below_2 : is_longest d 0 ≡ false → is_longest d 1 ≡ false → Over 2 → (j : ℕ) → j < 2 → get_or d j 0 < get_or d 2 0
-      below_2 a b o zero h = shorter 0 2 a o
-      below_2 a b o (suc zero) h = shorter 1 2 b o
-      below_2 a b o (suc (suc j)) h = absurd (omega arith)
-
-      below_3 : is_longest d 0 ≡ false → is_longest d 1 ≡ false → is_longest d 2 ≡ false → Over 3
-          → (j : ℕ) → j < 3 → get_or d j 0 < get_or d 3 0
-      below_3 a b c o zero h = shorter 0 3 a o
-      below_3 a b c o (suc zero) h = shorter 1 3 b o
-      below_3 a b c o (suc (suc zero)) h = shorter 2 3 c o
-      below_3 a b c o (suc (suc (suc j))) h = absurd (omega arith)
-
-      below_4 : is_longest d 0 ≡ false → is_longest d 1 ≡ false → is_longest d 2 ≡ false → is_longest d 3 ≡ false → Over 4
-          → (j : ℕ) → j < 4 → get_or d j 0 < get_or d 4 0
-      below_4 a b c e o zero h = shorter 0 4 a o
-      below_4 a b c e o (suc zero) h = shorter 1 4 b o
-      below_4 a b c e o (suc (suc zero)) h = shorter 2 4 c o
-      below_4 a b c e o (suc (suc (suc zero))) h = shorter 3 4 e o
-      below_4 a b c e o (suc (suc (suc (suc j)))) h = absurd (omega arith)
+      pick : (k : ℕ) {rest : ℕ} → k < 5 → Passed k → (Passed (k + 1) → Longest d rest)
+          → Longest d (cond (is_longest d k) k rest)
+      pick k {rest} h p q =
+          by_bool (Longest d) (is_longest d k) k rest (λ e. first_longest k h e p) (λ e. q (passed_more k p e))
 
   pub master_none : ((j : ℕ) → j < 5 → get_or d j 0 ≡ 0) → master_of d ≡ 0
   unfolding master_of
   master_none z =
       rw (is_over 0 (λ j h. let p = z j h in let q = z 0 (omega arith) in omega arith))
-
--- What is picked, with that.
-pub picked : (d : List ℕ) {k : ℕ} → k ≡ master_of d → (k ≡ master_of d) × Longest d k
-picked d e = (e, subst (Longest d) (sym e) (master_longest d))

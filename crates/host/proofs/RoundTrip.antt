@@ -1,6 +1,8 @@
 -- The round trip of lines over the receiver: the bytes that the writer makes of a request that has a line, received one
 -- after the other with nothing received before, are characters up to the 0D, and at the 0D that very line: the command,
 -- whether it is silent, and the identification. Assumes nothing.
+use Rattle.receiver.specs.declared.Line.{Line}
+use Rattle.std.proofs.Common.{Option, None}
 use Prim.Native.Nat.{ℕ, ◌-◌, ◌≤◌}
 use native.Mathlib.Omega.{arith}
 use mathlib.Core.Bool.{Bool, true, false, cond, not}
@@ -14,8 +16,6 @@ use Rattle.block.specs.Block.{over, front_of}
 use Rattle.block.proofs.Blocks.{block_most}
 use Rattle.block.proofs.Buffers.{front_over}
 use Rattle.line.specs.Codes.{is_query}
-use Rattle.receiver.specs.declared.Heard.{Heard}
-use Rattle.receiver.specs.declared.Heard.TheVariants.{Character}
 use Rattle.receiver.specs.Receiver.{heard_line}
 use Rattle.host.specs.declared.Request.{Request}
 use Rattle.host.specs.Writer.{digits_of, has_line, query_of, line_of, line, refused, written_of, buffer_of}
@@ -24,11 +24,11 @@ use Rattle.host.proofs.Lines.{NoEnd, request_lined}
 
 -- ---- characters up to the 0D
 
-line_heard : (l cs : List ℕ) → NoEnd cs → heard_all l (cs ++ (13 ∷ [])) ≡ ended_after (length cs) (heard_line (l ++ cs))
-line_heard l [] h = rw append-nil
-line_heard l (c ∷ cs) h =
-    rw h.0 (ap (λ (x : List Heard). Character ∷ x)
-    (line_heard (l ++ (c ∷ [])) cs h.1
+whole_heard : (l cs : List ℕ) → NoEnd cs → heard_all l (cs ++ (13 ∷ [])) ≡ ended_after (length cs) (heard_line (l ++ cs))
+whole_heard l [] h = rw append-nil
+whole_heard l (c ∷ cs) h =
+    rw h.0 (ap (λ (x : List (Option Line)). None ∷ x)
+    (whole_heard (l ++ (c ∷ [])) cs h.1
     ∙ ap (λ (x : List ℕ). ended_after (length cs) (heard_line x)) (append_assoc l (c ∷ []) cs)))
 
 pub round_trip : (r : Request) → has_line r ≡ true
@@ -37,7 +37,7 @@ round_trip r e =
     let l = request_lined r e in
     let n : length (line_of r) - 1 ≡ length l.chars =
     omega (arith, ap length l.ended, length-append l.chars (13 ∷ [])) in
-    rw (n, l.ended) (line_heard [] l.chars l.no_end ∙ ap (ended_after (length l.chars)) l.heard)
+    rw (n, l.ended) (whole_heard [] l.chars l.no_end ∙ ap (ended_after (length l.chars)) l.heard)
 
 -- ---- the bytes in the buffer
 

@@ -13,15 +13,12 @@ use Rattle.block.specs.declared.Block.{Block}
 use Rattle.block.specs.Block.{block_of, over, laid, laid_length}
 use Rattle.block.proofs.Blocks.{block_most}
 use Rattle.block.proofs.Buffers.{stores, laid_over, laid_over_length}
-use Rattle.line.specs.Ranges.{fits}
 use Rattle.line.specs.Codes.{letter_w, is_query}
 use Rattle.host.specs.declared.Request.{Request}
 use Rattle.host.specs.declared.content.Content.{Content}
 use Rattle.host.specs.Writer.{
   letter_of,
   digits_of,
-  ident_fits,
-  is_absent,
   has_line,
   switch_of,
   query_of,
@@ -56,45 +53,32 @@ module _ (r : Request) (d : List ℕ) where
   unfolding written_of buffer_of
   too_short h = (rw (lt-ltb (length d) 10 h), rw (lt-ltb (length d) 10 h))
 
-  no_line : 10 ≤ length d → has_line r ≡ false → (refused 19 ≡ written_of r d) × (d ≡ buffer_of r d)
-  unfolding written_of buffer_of
-  no_line h e = (rw (le-ltb (length d) 10 h, e), rw (le-ltb (length d) 10 h, e))
+  module _ (room : 10 ≤ length d) where
+    pub no_line : has_line r ≡ false → (refused 19 ≡ written_of r d) × (d ≡ buffer_of r d)
+    unfolding written_of buffer_of
+    no_line e = (rw (le-ltb (length d) 10 room, e), rw (le-ltb (length d) 10 room, e))
 
-  with_line : {n : ℕ} {buf : List ℕ} → 10 ≤ length d → has_line r ≡ true → n ≡ length (line_of r)
-      → buf ≡ over (line_of r) d → (line n ≡ written_of r d) × (buf ≡ buffer_of r d)
-  unfolding written_of buffer_of
-  with_line h e p q = (rw (le-ltb (length d) 10 h, e) (ap line p), rw (le-ltb (length d) 10 h, e) q)
+    module _ (e : has_line r ≡ true) where
+      with_line : {n : ℕ} {buf : List ℕ} → n ≡ length (line_of r) → buf ≡ over (line_of r) d
+          → (line n ≡ written_of r d) × (buf ≡ buffer_of r d)
+      unfolding written_of buffer_of
+      with_line p q = (rw (le-ltb (length d) 10 room, e) (ap line p), rw (le-ltb (length d) 10 room, e) q)
 
-  -- ---- by the writer's tests, in order
-
-  module _ (h : 10 ≤ length d) where
-    pub out_of_range : fits r.command ≡ false → (refused 19 ≡ written_of r d) × (d ≡ buffer_of r d)
-    out_of_range e = no_line h (rw e)
-
-    module _ (inside : fits r.command ≡ true) where
-      pub query_named : is_query r.command ≡ true → is_absent r.ident ≡ false
-          → (refused 19 ≡ written_of r d) × (d ≡ buffer_of r d)
-      query_named q e = no_line h (rw (inside, q) e)
-
-      pub query_written : {buf : List ℕ} → is_query r.command ≡ true → is_absent r.ident ≡ true
-          → buf ≡ over (query_of r.silent) d → (line 3 ≡ written_of r d) × (buf ≡ buffer_of r d)
-      query_written q e w =
+      pub query_written : {buf : List ℕ} → is_query r.command ≡ true → buf ≡ over (query_of r.silent) d
+          → (line 3 ≡ written_of r d) × (buf ≡ buffer_of r d)
+      query_written q w =
           let whole = query_line r q in
-          with_line h (rw (inside, q) e) (ap length (sym whole)) (w ∙ ap (λ (s : List ℕ). over s d) (sym whole))
-
-      pub full_named : is_query r.command ≡ false → ident_fits r.ident ≡ false
-          → (refused 19 ≡ written_of r d) × (d ≡ buffer_of r d)
-      full_named q e = no_line h (rw (inside, q) e)
+          with_line (ap length (sym whole)) (w ∙ ap (λ (s : List ℕ). over s d) (sym whole))
 
       pub full_written : (k : Content) (s : ℕ) {size : ℕ} {buf : List ℕ} → is_query r.command ≡ false
-          → ident_fits r.ident ≡ true → k ≡ content_of r.command → s ≡ switch_of r.silent
+          → k ≡ content_of r.command → s ≡ switch_of r.silent
           → size ≡ laid_length 0 (block_of (block_with k s)) d → buf ≡ laid 0 (block_of (block_with k s)) d
           → (line size ≡ written_of r d) × (buf ≡ buffer_of r d)
-      full_written k s q e p o w z =
+      full_written k s q p o w z =
           let b = block_with k s in
           let whole : block_of b ≡ line_of r = (λ i. block_of (block_with (p i) (o i))) ∙ sym (full_line r q) in
           let m : length (block_of b) ≤ length d = omega (arith, block_most b) in
-          with_line h (rw (inside, q) e) (w ∙ laid_over_length (block_of b) d m ∙ ap length whole)
+          with_line (w ∙ laid_over_length (block_of b) d m ∙ ap length whole)
           (z ∙ laid_over (block_of b) d m ∙ ap (λ (x : List ℕ). over x d) whole)
 
 -- ---- the stores of a W query

@@ -1,19 +1,16 @@
 -- The round trip of lines (demand 2): "The host side writes lines that the controller reads as the same command."
 -- `write_line` promises `LineTrip` and `LineBack`. Lines are heard by the controller's own receiver (crate receiver,
 -- `receive`) and obeyed by the machine's own byte step (crate machine, `byte_step`).
-use Rattle.std.specs.Prelude.{ℕ, zero, suc, ◌-◌, ◌≤◌, ◌<◌, Bool, true, false, List, [], ◌∷◌, ◌++◌, ◌≡◌, length, get_or}
+use Rattle.receiver.specs.declared.Line.{Line}
+use Rattle.std.specs.Prelude.{ℕ, zero, suc, ◌-◌, ◌≤◌, ◌<◌, Bool, true, false, List, [], ◌∷◌, ◌++◌, ◌≡◌, length, get_or, Some, Option, None}
 use Rattle.digits.specs.Digits.{end_byte}
 use Rattle.digits.specs.Characters.{digit_characters, is_one}
-use Rattle.digits.specs.declared.Ident.TheVariants.{Given}
 use Rattle.block.specs.Block.{front_of}
 use Rattle.line.specs.declared.command.Command.{Command}
-use Rattle.line.specs.declared.Judged.TheVariants.{Accepted}
 use Rattle.line.specs.Codes.{is_query}
 use Rattle.line.specs.Ranges.{fits}
-use Rattle.line.specs.Line.{silent_of, ident_of, judge_of}
-use Rattle.receiver.specs.declared.Heard.{Heard}
-use Rattle.receiver.specs.declared.Heard.TheVariants.{Character, Line}
-use Rattle.receiver.specs.Receiver.{receive, heard_line}
+use Rattle.line.specs.Line.{silent_of, ident_of, judge_of, accepting}
+use Rattle.receiver.specs.Receiver.{receive, heard_line, line_heard}
 use Rattle.machine.specs.State.{Machine, with_line, with_watch}
 use Rattle.machine.specs.Commands.{number, does, awaits, turned}
 use Rattle.machine.specs.Replies.{reply_to, refusal, unless_silent}
@@ -25,14 +22,14 @@ use Rattle.host.specs.Writer.{digits_of, has_line, line_of, line, refused, writt
 -- ---- Bytes that come one after the other
 
 -- What the receiver makes of each, l being the characters received before.
-abbrev pub heard_all : List ℕ → List ℕ → List Heard
+abbrev pub heard_all : List ℕ → List ℕ → List (Option Line)
 heard_all l [] = []
 heard_all l (b ∷ bs) = (receive l b).heard ∷ heard_all (receive l b).line bs
 
 -- n characters, then the end of a line.
-abbrev pub ended_after : ℕ → Heard → List Heard
+abbrev pub ended_after : ℕ → Option Line → List (Option Line)
 ended_after zero end = end ∷ []
-ended_after (suc n) end = Character ∷ ended_after n end
+ended_after (suc n) end = None ∷ ended_after n end
 
 -- The bytes as calls after the calls h, the latest first, as lists of calls are; the byte at place i comes with the
 -- lent buffer `lent i`.
@@ -59,12 +56,12 @@ gathers m l (c ∷ cs) =
 -- ---- A request as the controller hears and obeys it
 
 -- The end of a line that asks for r, with these six digits.
-abbrev pub heard_as : Request → ℕ → Heard
-heard_as r digits = Line r.silent r.ident (Accepted r.command digits)
+abbrev pub heard_as : Request → ℕ → Option Line
+heard_as r digits = line_heard r.silent r.ident (accepting r.command digits)
 
 -- What m, with no half-received line, answers to it.
 abbrev pub answer_to : Machine → Request → ByteAnswer
-answer_to m r = answered m end_byte (decided m r.silent r.ident (Accepted r.command (digits_of r.command)))
+answer_to m r = answered m end_byte (decided m r.silent r.ident (accepting r.command (digits_of r.command)))
 
 -- m is given the bytes of r's line one by one.
 pub record Obeys (m : Machine) (r : Request) (lent : ℕ → List ℕ) : Type 0 where
@@ -105,9 +102,9 @@ pub record LineTrip : Type 0 where
   -- paper 02, 7/14: a command in its ranges, W queries aside, has a line with each of the 22 identifications, and with
   -- no other character
   pub named : (silent : Bool) (c : Command) (x : ℕ) → fits c ≡ true → is_query c ≡ false
-      → has_line (record { silent = silent; command = c; ident = Given x }) ≡ is_one x digit_characters
+      → has_line (record { silent = silent; command = c; ident = Some x }) ≡ is_one x digit_characters
   -- it is the very ninth character of the line
-  pub ninth : (r : Request) (x : ℕ) → has_line r ≡ true → r.ident ≡ Given x → get_or (line_of r) 8 0 ≡ x
+  pub ninth : (r : Request) (x : ℕ) → has_line r ≡ true → r.ident ≡ Some x → get_or (line_of r) 8 0 ≡ x
   -- two requests are two lines, also where their identifications differ in case alone
   pub apart : (r q : Request) → has_line r ≡ true → has_line q ≡ true → line_of r ≡ line_of q → r ≡ q
 
@@ -127,9 +124,9 @@ pub record Asked (r : Request) : Type 0 where
 -- So 19 is exactly for values without a line.
 pub record LineBack : Type 0 where
   -- any characters that are judged as a command
-  pub has : (cs : List ℕ) (c : Command) (digits : ℕ) → judge_of cs ≡ Accepted c digits
+  pub has : (cs : List ℕ) (c : Command) (digits : ℕ) → judge_of cs ≡ accepting c digits
       → has_line (request_in cs c) ≡ true
-  pub same : (cs : List ℕ) (c : Command) (digits : ℕ) → judge_of cs ≡ Accepted c digits
+  pub same : (cs : List ℕ) (c : Command) (digits : ℕ) → judge_of cs ≡ accepting c digits
       → heard_all [] (line_of (request_in cs c))
       ≡ ended_after (length (line_of (request_in cs c)) - 1) (heard_as (request_in cs c) (digits_of c))
   -- 19 where no line asks for the value, and nowhere else

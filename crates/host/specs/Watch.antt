@@ -1,8 +1,7 @@
 -- Paper 02, 2/14: the line that host tools send first, once after each power-on, so that the watch stops none of their
 -- moves. `watch_off` gives it and promises `WatchOff`; the machine is that of crate machine.
-use Rattle.std.specs.Prelude.{ℕ, false, List, [], ◌∷◌, ◌++◌, ◌≡◌}
+use Rattle.std.specs.Prelude.{ℕ, false, List, [], ◌∷◌, ◌++◌, ◌≡◌, None}
 use Rattle.digits.specs.Digits.{end_byte}
-use Rattle.digits.specs.declared.Ident.TheVariants.{Absent}
 use Rattle.line.specs.declared.command.Command.TheVariants as C
 use Rattle.machine.specs.State.{Machine, put, with_settings}
 use Rattle.machine.specs.Steps.{power_on}
@@ -17,7 +16,7 @@ watch_off = chars "P0B0" ++ (end_byte ∷ [])
 
 -- What it asks for: watch 0, with a reply and no identification.
 abbrev pub watch_request : Request
-watch_request = record { silent = false; command = C.Set 11 0; ident = Absent }
+watch_request = record { silent = false; command = C.Set 11 0; ident = None }
 
 pub record WatchOff : Type 0 where
   -- the writer's line of the same request is the full one

@@ -1,10 +1,8 @@
 -- The host's writer (paper 01, "Host end and program"): from a command value to a full line. A full line has six digits
 -- in capitals, those without meaning 0; a W query has none and no identification.
-use Rattle.std.specs.Prelude.{ℕ, ◌+◌, ◌*◌, Bool, true, false, cond, not, ◌&&◌, List, [], ◌∷◌, ltb, eqb, length}
+use Rattle.std.specs.Prelude.{ℕ, ◌+◌, ◌*◌, Bool, true, false, cond, not, ◌&&◌, List, [], ◌∷◌, ltb, eqb, length, Option, None, Some, Result, Ok, Err}
 use Rattle.laws.specs.Bits.{weight}
 use Rattle.digits.specs.Digits.{end_byte, four_digits, top_bit, digit_of, capital_of}
-use Rattle.digits.specs.declared.Ident.{Ident}
-use Rattle.digits.specs.declared.Ident.TheVariants.{Absent, Given}
 use Rattle.block.specs.Block.{block_of, over}
 use Rattle.line.specs.Ranges.{fits}
 use Rattle.line.specs.Codes.{letter_p, letter_q, letterq, letter_w, is_query}
@@ -15,8 +13,8 @@ use Rattle.line.specs.declared.command.Command.{Command}
 use Rattle.line.specs.declared.command.Command.TheVariants as C
 use Rattle.reply.specs.Reply.{coded}
 use Rattle.host.specs.declared.Request.{Request}
-use Rattle.host.specs.declared.Written.{Written}
-use Rattle.host.specs.declared.Written.TheVariants.{Length, Refused}
+use Rattle.host.specs.declared.WriteError.{WriteError}
+use Rattle.host.specs.declared.WriteError.TheVariants.{ShortBuffer, NoLine}
 use Rattle.host.specs.declared.content.Content.{Content}
 
 -- ---- A command's letter and digits ("Lines"; chapter 7)
@@ -66,14 +64,14 @@ content_of c = content (letter_of c) (digits_of c)
 -- ---- Which values have a line: those whose fields are in the ranges of "Lines" (crate line, `fits`)
 
 -- An identification is absent, or a character 0-9, A-F or a-f.
-abbrev pub ident_fits : Ident → Bool
-ident_fits Absent = true
-ident_fits (Given c) = is_ident (digit_of c)
+abbrev pub ident_fits : Option ℕ → Bool
+ident_fits None = true
+ident_fits (Some c) = is_ident (digit_of c)
 
 -- There is none.
-abbrev pub is_absent : Ident → Bool
-is_absent Absent = true
-is_absent (Given c) = false
+abbrev pub is_absent : Option ℕ → Bool
+is_absent None = true
+is_absent (Some c) = false
 
 -- A W query has no identification.
 abbrev pub has_line : Request → Bool
@@ -90,7 +88,7 @@ abbrev pub query_of : Bool → List ℕ
 query_of silent = letter_w ∷ capital_of (switch_of silent) ∷ end_byte ∷ []
 
 -- Letter, 0 or 4, six digits, the identification if given, 0D.
-abbrev pub full_of : Bool → ℕ → ℕ → Ident → List ℕ
+abbrev pub full_of : Bool → ℕ → ℕ → Option ℕ → List ℕ
 full_of silent letter digits ident =
     block_of (record { letter = letter; switch = switch_of silent; number = digits; ident = ident })
 
@@ -103,19 +101,24 @@ line_of r =
 -- ---- The answer, and the buffer d after it
 
 -- What the writer answers in the paper's terms.
-pub data Result : Type 0 where
+pub data Written : Type 0 where
   -- number 0: a line of this length stands at the front of the buffer
-  line : ℕ → Result
+  line : ℕ → Written
   -- the number that turns the request away
-  refused : ℕ → Result
+  refused : ℕ → Written
+
+-- 18. Line buffer under 10 bytes. 19. Value without a line.
+abbrev pub error_number : WriteError → ℕ
+error_number ShortBuffer = 18
+error_number NoLine = 19
 
 -- The paper's number and values for each case of the writer's answer.
-abbrev pub result_of : Written → Result
-result_of (Length n) = line n
-result_of (Refused n) = refused n
+abbrev pub result_of : Result ℕ WriteError → Written
+result_of (Ok n) = line n
+result_of (Err e) = refused (error_number e)
 
 -- 18. Line buffer under 10 bytes. 19. Value without a line. Else the line's length.
-unfoldable pub written_of : Request → List ℕ → Result
+unfoldable pub written_of : Request → List ℕ → Written
 written_of r d =
     cond (ltb (length d) 10) (refused 18)
     (cond (not (has_line r)) (refused 19)

@@ -10,7 +10,6 @@ ghost use Rattle.reply.specs.Reply.{coded};
 ghost use Rattle.host.specs.Writer.{content, content_of};
 
 use digits::{FIVE_DIGITS, FOUR_DIGITS, TOP_BIT};
-use line::command;
 use line::command::{Command, Reading};
 
 // The codes of the watch, a start, the status and everything, and the lowest code of a setting by a line Q.
@@ -49,10 +48,7 @@ fn distance_digits(minus: bool, length: u32) -> u32
     requires { length < top_bit }
     ensures { result ≡ weight minus top_bit + length }
 {
-    if minus {
-        return TOP_BIT + length;
-    }
-    length
+    if minus { TOP_BIT + length } else { length }
 }
 
 // P, and Q for the settings of the inputs; the watch is the second digit.
@@ -60,13 +56,11 @@ fn setting(code: u8, value: u32) -> Content
     requires { CommandFits (C.Set code value) }
     ensures { result ≡ content_of (C.Set code value) }
 {
-    if code == WATCH {
-        return coded(b'P', code, value * FOUR_DIGITS);
+    match code {
+        WATCH => coded(b'P', code, value * FOUR_DIGITS),
+        LOW_ON.. => coded(b'Q', code, value),
+        _ => coded(b'P', code, value),
     }
-    if code < LOW_ON {
-        return coded(b'P', code, value);
-    }
-    coded(b'Q', code, value)
 }
 
 // Q 8: the second digit is the master, 8 more for a start after the dwell.
@@ -74,11 +68,8 @@ fn start(master: u8, waits: bool) -> Content
     requires { master < 5 }
     ensures { result ≡ content_of (C.Start master waits) }
 {
-    let second = master as u32;
-    if waits {
-        return coded(b'Q', START, (WAITS + second) * FOUR_DIGITS);
-    }
-    coded(b'Q', START, second * FOUR_DIGITS)
+    let added = if waits { WAITS } else { 0 };
+    coded(b'Q', START, (added + master as u32) * FOUR_DIGITS)
 }
 
 // A reading; W's query has no digits, and here stands with 0.
@@ -123,19 +114,5 @@ pub(crate) fn content_of(command: Command) -> Content
 pub(crate) fn is_query(command: Command) -> bool
     ensures { result ≡ is_query command }
 {
-    match command {
-        Command::Distance {
-            axis: _,
-            minus: _,
-            length: _,
-        } => false,
-        Command::Set { code: _, value: _ } => false,
-        Command::Start {
-            master: _,
-            waits: _,
-        } => false,
-        Command::Order(_) => false,
-        Command::Outputs(_) => false,
-        Command::Read(r) => command::is_inputs(r),
-    }
+    matches!(command, Command::Read(Reading::Inputs))
 }

@@ -6,12 +6,13 @@
 
 ghost use Rattle.std.specs.Prelude.{◌≤◌, ◌≡◌, length};
 ghost use Rattle.block.specs.Block.{over};
-ghost use Rattle.host.specs.Master.{none_longer, master_of, Longest};
+ghost use Rattle.host.specs.Master.{master_of, Longest};
 ghost use Rattle.host.specs.Writer.{
   ident_fits,
-  is_absent,
+  has_line,
   switch_of,
   query_of,
+  error_number,
   result_of,
   written_of,
   buffer_of,
@@ -20,7 +21,7 @@ ghost use Rattle.host.specs.RoundTrip.{LineTrip, LineBack};
 ghost use Rattle.host.specs.Watch.{watch_off, WatchOff};
 
 use block::Block;
-use digits::{END, Ident};
+use digits::END;
 use line::command::Command;
 use line::{command, distances};
 
@@ -34,46 +35,54 @@ const LINE_ROOM: usize = 10;
 pub struct Request {
     pub silent: bool,
     pub command: Command,
-    pub ident: Ident,
+    pub ident: Option<u8>,
 }
 
-// What comes of a request.
-#[derive(Drop)]
-pub enum Written {
-    // The length of the line, which stands at the front of the buffer.
-    Length(usize),
-    // 18 or 19; the buffer is as it was.
-    Refused(u8),
+// Why there is no line: the buffer is as it was.
+#[derive(Clone, Copy, PartialEq, Eq)]
+pub enum WriteError {
+    // 18: a line buffer under 10 bytes.
+    ShortBuffer,
+    // 19: a value without a line.
+    NoLine,
+}
+
+// The number of the paper.
+impl From<WriteError> for u8 {
+    ghost from_gives = { λ error number. number ≡ error_number error };
+
+    fn from(error: WriteError) -> u8 {
+        match error {
+            WriteError::ShortBuffer => 18,
+            WriteError::NoLine => 19,
+        }
+    }
 }
 
 // Whether an identification is absent, or a character 0-9, A-F or a-f.
-pub fn is_ident(ident: Ident) -> bool
+pub fn is_ident(ident: Option<u8>) -> bool
     ensures { result ≡ ident_fits ident }
 {
-    match ident {
-        Ident::Absent => true,
-        Ident::Given(c) => line::is_ident(c),
-    }
+    ident.is_none_or(line::is_ident)
 }
 
-// Whether there is none.
-pub fn is_absent(ident: Ident) -> bool
-    ensures { result ≡ is_absent ident }
+// Whether the values of a request are in their ranges; W's query has no identification.
+fn has_line(request: Request) -> bool
+    ensures { result ≡ has_line request }
 {
-    match ident {
-        Ident::Absent => true,
-        Ident::Given(_) => false,
-    }
+    command::fits(request.command)
+        && if content::is_query(request.command) {
+            request.ident.is_none()
+        } else {
+            is_ident(request.ident)
+        }
 }
 
 // The switch digit of a line: 0 (reply) or 4 (silent).
 fn switch(silent: bool) -> u8
     ensures { result ≡ switch_of silent }
 {
-    if silent {
-        return 4;
-    }
-    0
+    if silent { 4 } else { 0 }
 }
 
 // A W query at the front of a buffer that has room for it.
@@ -89,38 +98,30 @@ fn write_query(buf: &mut [u8], silent: bool)
 // The line of a request at the front of a lent buffer: 18 for a buffer under 10 bytes, then 19 for a value without a
 // line; both leave the buffer as it was. That the controller reads every such line as the same command, and that 19 is
 // exactly for values without a line, stand here as promises.
-pub fn write_line(buf: &mut [u8], request: Request) -> Written
+pub fn write_line(buf: &mut [u8], request: Request) -> Result<usize, WriteError>
     ensures result_value { result_of result ≡ written_of request buf.old }
     ensures buf_after { buf.new ≡ buffer_of request buf.old }
     ensures line_trip { LineTrip }
     ensures line_back { LineBack }
 {
     if buf.len() < LINE_ROOM {
-        return Written::Refused(18);
+        return Err(WriteError::ShortBuffer);
     }
-    let command = request.command;
-    let ident = request.ident;
-    if !command::fits(command) {
-        return Written::Refused(19);
+    if !has_line(request) {
+        return Err(WriteError::NoLine);
     }
-    if content::is_query(command) {
-        if !is_absent(ident) {
-            return Written::Refused(19);
-        }
+    if content::is_query(request.command) {
         write_query(buf, request.silent);
-        return Written::Length(3);
+        return Ok(3);
     }
-    if !is_ident(ident) {
-        return Written::Refused(19);
-    }
-    let content = content::content_of(command);
+    let content = content::content_of(request.command);
     let block = Block {
         letter: content.letter,
         switch: switch(request.silent),
         number: content.number,
-        ident,
+        ident: request.ident,
     };
-    Written::Length(block::write_block(buf, 0, block))
+    Ok(block::write_block(buf, 0, block))
 }
 
 // P0B0 and 0D: what host tools send first, once after each power-on, and drop the reply of (paper 02, 2/14). No other
@@ -132,29 +133,15 @@ pub fn watch_off() -> [u8; 5]
     [b'P', b'0', b'B', b'0', END]
 }
 
-// Whether no axis is longer than this length.
-fn none_longer(distances: [u32; 5], length: u32) -> bool
-    ensures { result ≡ none_longer distances length }
-{
-    !distances::some_longer(distances, length)
-}
-
 // The master for a move with these distances: the longest; of equals the lowest axis; 0 if all are 0.
 pub fn pick_master(distances: [u32; 5]) -> u8
     ensures value { result ≡ master_of distances }
     ensures longest { Longest distances result }
 {
-    if none_longer(distances, distances[0]) {
-        return 0;
-    }
-    if none_longer(distances, distances[1]) {
-        return 1;
-    }
-    if none_longer(distances, distances[2]) {
-        return 2;
-    }
-    if none_longer(distances, distances[3]) {
-        return 3;
+    for k in 0..4 {
+        if !distances::some_longer(distances, distances[k]) {
+            return k as u8;
+        }
     }
     4
 }

@@ -6,52 +6,37 @@ ghost use Rattle.std.specs.Prelude.{◌≡◌, false, get_or};
 ghost use Rattle.inputs.specs.Inputs.{low_at, high_at, blocked_at, some_blocked, active_at};
 
 // Whether the setting has bit 0 and that input is low.
+// Low and high are two functions, as in specs/: a sentence of paper 01 each.
 fn low_at(setting: u32, inputs: u32) -> bool
     ensures { result ≡ low_at setting inputs 0 }
 {
-    if setting % 2 == 0 {
-        return false;
-    }
-    inputs % 2 == 0
+    setting % 2 == 1 && inputs % 2 == 0
 }
 
 // Whether the setting has bit 0 and that input is high.
 fn high_at(setting: u32, inputs: u32) -> bool
     ensures { result ≡ high_at setting inputs 0 }
 {
-    if setting % 2 == 0 {
-        return false;
-    }
-    inputs % 2 == 1
+    setting % 2 == 1 && inputs % 2 == 1
 }
 
 // Whether the input of bit 0 is active in either setting.
 fn active(low: u32, high: u32, inputs: u32) -> bool
     ensures { result ≡ active_at low high inputs 0 }
 {
-    if low_at(low, inputs) {
-        return true;
-    }
-    high_at(high, inputs)
+    low_at(low, inputs) || high_at(high, inputs)
 }
 
 // Whether axis 0 is blocked in its direction. Of a later axis the caller shifts the words down to bits 0 and 1.
 fn blocked_at(low: u32, high: u32, inputs: u32, distance: u32, minus: bool) -> bool
     ensures { result ≡ blocked_at low high inputs distance minus 0 }
 {
-    if distance == 0 {
-        return false;
-    }
-    if minus {
-        if low_at(low, inputs) {
-            return true;
+    distance > 0
+        && if minus {
+            low_at(low, inputs) || high_at(high / 2, inputs / 2)
+        } else {
+            low_at(low / 2, inputs / 2) || high_at(high, inputs)
         }
-        return high_at(high / 2, inputs / 2);
-    }
-    if low_at(low / 2, inputs / 2) {
-        return true;
-    }
-    high_at(high, inputs)
 }
 
 // Whether the emergency input is active.
@@ -69,6 +54,8 @@ pub fn sensor(low: u32, high: u32, inputs: u32) -> bool
 }
 
 // Whether some axis with a distance is blocked in its direction.
+// Three words and two arrays: settings, inputs and the plan lie apart in the controller. The axes stand one by one: none
+// of firmware's functions shifts or divides by a number that varies (paper 02, 4/14; ci/widths.py).
 pub fn blocked(low: u32, high: u32, inputs: u32, distances: [u32; 5], minus: [bool; 5]) -> bool
     ensures { result ≡ some_blocked low high inputs (λ k. get_or distances k 0) (λ k. get_or minus k false) }
 {

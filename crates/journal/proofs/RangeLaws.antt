@@ -1,17 +1,20 @@
 -- Laws of the seven numbers of an entry: their ranges, whether they fit, and each of them by itself. Assumes
 -- nothing.
-use Prim.Native.Nat.{ℕ, zero, suc, ◌+◌, ◌≤◌, ◌<◌}
-use mathlib.Core.Bool.{true, ◌&&◌, false≢true}
-use mathlib.Core.List.{List, [], ◌∷◌}
-use mathlib.Core.Path.{◌≡◌, refl, sym, ap, ◌∙◌}
-use native.Mathlib.Numerals.{add-one}
+use Rattle.std.specs.List.{All}
+use Rattle.std.specs.Iterator.{Yields}
+use Rattle.std.specs.Array.{list_steps}
+use Prim.Native.Nat.{ℕ, zero, suc, ◌≤◌, ◌<◌}
+use Rattle.std.specs.Prelude.{MatchBool}
+use mathlib.Core.Bool.{Bool, true, false, false≢true}
+use mathlib.Core.List.{List, [], ◌∷◌, map}
+use mathlib.Core.Path.{◌≡◌, refl, sym, ap, subst, ◌∙◌}
 use native.Mathlib.Omega.{arith}
 use borrow.Author.Tests.{leb-true}
 use lib.Dec.{leb}
 use lib.IntN.{ℤ, pos}
-use lib.ListN.{length, get_or, drop, drop_of_length-le}
-use lib.Seq.{drop-cons}
+use lib.ListN.{length, get_or}
 use Rattle.laws.proofs.Tests.{both}
+use Rattle.journal.specs.Numbers.{stored}
 use Rattle.journal.specs.Entries.{
   Range,
   ticks_range,
@@ -34,16 +37,6 @@ by_range P a b c (suc (suc (suc (suc zero)))) = c
 by_range P a b c (suc (suc (suc (suc (suc zero))))) = c
 by_range P a b c (suc (suc (suc (suc (suc (suc zero)))))) = c
 by_range P a b c (suc (suc (suc (suc (suc (suc (suc k))))))) = c
-
-pub range_travel : (k : ℕ) → (k ≡ 0 → ⊥) → (k ≡ 1 → ⊥) → range_at k ≡ travel_range
-range_travel zero p q = absurd (p refl)
-range_travel (suc zero) p q = absurd (q refl)
-range_travel (suc (suc zero)) p q = refl
-range_travel (suc (suc (suc zero))) p q = refl
-range_travel (suc (suc (suc (suc zero)))) p q = refl
-range_travel (suc (suc (suc (suc (suc zero))))) p q = refl
-range_travel (suc (suc (suc (suc (suc (suc zero)))))) p q = refl
-range_travel (suc (suc (suc (suc (suc (suc (suc k))))))) p q = refl
 
 pub within_most : (r : Range) (n : ℕ) → within r n ≡ true → n ≤ r.most
 within_most r n e = leb-true n r.most (both (leb r.least n) (leb n r.most) e).1
@@ -79,42 +72,49 @@ travel_at ns k f h e =
     ap (λ (r : Range). within r (get_or ns k 0)) (sym e) ∙ fit_at ranges ns travel_range k f h in
     omega (arith, within_most travel_range (get_or ns k 0) w)
 
--- ---- seven numbers and five travels, one by one
+-- ---- five travels as they are stored
 
-pub from_two : (ns : List ℕ) → length ns ≡ 7
-    → drop 2 ns ≡ get_or ns 2 0 ∷ get_or ns 3 0 ∷ get_or ns 4 0 ∷ get_or ns 5 0 ∷ get_or ns 6 0 ∷ []
-from_two ns e =
-    let h : length ns ≤ 7 = omega arith in
-    drop-cons ns 2 0 (omega arith)
-    ∙ ap (λ (l : List ℕ). get_or ns 2 0 ∷ l) (drop-cons ns 3 0 (omega arith)
-    ∙ ap (λ (l : List ℕ). get_or ns 3 0 ∷ l) (drop-cons ns 4 0 (omega arith)
-    ∙ ap (λ (l : List ℕ). get_or ns 4 0 ∷ l) (drop-cons ns 5 0 (omega arith)
-    ∙ ap (λ (l : List ℕ). get_or ns 5 0 ∷ l) (drop-cons ns 6 0 (omega arith)
-    ∙ ap (λ (l : List ℕ). get_or ns 6 0 ∷ l) (drop_of_length-le ns h)))))
+pub five_stored : (zs : List ℤ) (ns : List ℕ) → length zs ≡ 5
+    → ((k : ℕ) → k < 5 → get_or ns k 0 ≡ stored (get_or zs k (pos 0)))
+    → get_or ns 0 0 ∷ get_or ns 1 0 ∷ get_or ns 2 0 ∷ get_or ns 3 0 ∷ get_or ns 4 0 ∷ [] ≡ map stored zs
+five_stored [] ns l h = absurd (omega arith)
+five_stored (a ∷ []) ns l h = absurd (omega arith)
+five_stored (a ∷ b ∷ []) ns l h = absurd (omega arith)
+five_stored (a ∷ b ∷ c ∷ []) ns l h = absurd (omega arith)
+five_stored (a ∷ b ∷ c ∷ d ∷ []) ns l h = absurd (omega arith)
+five_stored (a ∷ b ∷ c ∷ d ∷ e ∷ []) ns l h =
+    λ i. h 0 (omega arith) i ∷ h 1 (omega arith) i ∷ h 2 (omega arith) i ∷ h 3 (omega arith) i ∷ h 4 (omega arith) i ∷ []
+five_stored (a ∷ b ∷ c ∷ d ∷ e ∷ f ∷ zs) ns l h = absurd (omega arith)
 
-pub five_travels : (zs : List ℤ) → length zs ≡ 5
-    → zs ≡ get_or zs 0 (pos 0) ∷ get_or zs 1 (pos 0) ∷ get_or zs 2 (pos 0) ∷ get_or zs 3 (pos 0) ∷ get_or zs 4 (pos 0) ∷ []
-five_travels zs e =
-    let h : length zs ≤ 5 = omega arith in
-    drop-cons zs 0 (pos 0) (omega arith)
-    ∙ ap (λ (l : List ℤ). get_or zs 0 (pos 0) ∷ l) (drop-cons zs 1 (pos 0) (omega arith)
-    ∙ ap (λ (l : List ℤ). get_or zs 1 (pos 0) ∷ l) (drop-cons zs 2 (pos 0) (omega arith)
-    ∙ ap (λ (l : List ℤ). get_or zs 2 (pos 0) ∷ l) (drop-cons zs 3 (pos 0) (omega arith)
-    ∙ ap (λ (l : List ℤ). get_or zs 3 (pos 0) ∷ l) (drop-cons zs 4 (pos 0) (omega arith)
-    ∙ ap (λ (l : List ℤ). get_or zs 4 (pos 0) ∷ l) (drop_of_length-le zs h)))))
+-- ---- judged one by one
 
--- ---- judged one after the other
-
-pub fit_next : (ns : List ℕ) (k : ℕ) → length ns ≡ 7 → k < 7
-    → fit_all (drop k ranges) (drop k ns)
-    ≡ within (range_at k) (get_or ns k 0) && fit_all (drop (k + 1) ranges) (drop (k + 1) ns)
+all_in : (rs : List Range) (ns : List ℕ) → length ns ≡ length rs
+    → ((k : ℕ) → k < length rs → within (get_or rs k travel_range) (get_or ns k 0) ≡ true) → fit_all rs ns ≡ true
 unfolding fit_all
-fit_next ns k e h =
-    let l : k < length ns = omega arith in
-    rw (drop-cons ranges k travel_range h, drop-cons ns k 0 l, add-one k)
+all_in [] [] e h = refl
+all_in [] (n ∷ ns) e h = absurd (omega arith)
+all_in (r ∷ rs) [] e h = absurd (omega arith)
+all_in (r ∷ rs) (n ∷ ns) e h =
+    let first = h 0 (omega arith) in
+    let rest = all_in rs ns (omega arith) (λ k l. h (suc k) (omega arith)) in
+    rw (first, rest)
 
-pub fit_end : (ns : List ℕ) → length ns ≡ 7 → fit_all (drop 7 ranges) (drop 7 ns) ≡ true
-unfolding fit_all
-fit_end ns e =
-    let h : length ns ≤ 7 = omega arith in
-    rw (drop_of_length-le ns h)
+pub all_fit : (ns : List ℕ) → length ns ≡ 7 → (r : Bool)
+    → MatchBool r ((k : ℕ) → k < 7 → within (range_at k) (get_or ns k 0) ≡ true)
+    ((k : ℕ) × (k < 7) × (within (range_at k) (get_or ns k 0) ≡ false))
+    → r ≡ fit_all ranges ns
+all_fit ns e true h = sym (all_in ranges ns e h)
+all_fit ns e false h = one_out (fit_all ranges ns) refl
+  where
+    one_out : (r : Bool) → fit_all ranges ns ≡ r → false ≡ r
+    one_out true p = sym h.2 ∙ fit_at ranges ns travel_range h.0 p h.1
+    one_out false p = refl
+
+-- ---- calls at the items of a list in turn
+
+-- Each call is at a number below m.
+pub item_small : (m : ℕ) (l xs t u : List ℕ) (x : ℕ) → All (λ n. n < m) l → Yields list_steps l xs t → t ≡ x ∷ u → x < m
+item_small m l [] t u x a y e = subst (All (λ n. n < m)) (y ∙ e) a 0 0 (omega arith)
+item_small m l (z ∷ xs) t u x a y e =
+    let rest = subst (All (λ n. n < m)) y.1 a in
+    item_small m y.0 xs t u x (λ k d h. rest (suc k) d (omega arith)) y.2 e

@@ -1,4 +1,7 @@
 -- Laws of numbers spelled one behind the other, as the code counts and writes them. Assumes nothing.
+use Rattle.std.proofs.Common.{sum, map}
+use Rattle.std.specs.List.{sum_by}
+use Rattle.std.proofs.lemmas.List.Sums.{sum_by-cons, sum-map}
 use Prim.Native.Nat.{ℕ, ◌+◌, ◌≤◌, ◌<◌}
 use mathlib.Core.List.{List, [], ◌∷◌, ◌++◌, append_assoc, append-nil}
 use mathlib.Core.Path.{◌≡◌, refl, sym, ap, ◌∙◌}
@@ -42,14 +45,19 @@ spell_whole ns k e = ap spell_all (take_all k ns (omega arith))
 
 -- ---- counted
 
-pub counted : (ns : List ℕ) (k sum n : ℕ) → k < length ns → sum ≡ length (spell_all (take k ns))
-    → n ≡ length (spelling (get_or ns k 0)) → sum + n ≡ length (spell_all (take (k + 1) ns))
-counted ns k sum n h p q =
+counted : (ns : List ℕ) → sum_by (λ n. length (spelling n)) ns ≡ length (spell_all ns)
+unfolding spell_all
+counted [] = refl
+counted (n ∷ ns) =
     omega (
       arith,
-      ap length (spell_next ns k h),
-      length-append (spell_all (take k ns)) (spelling (get_or ns k 0)),
+      sum_by-cons (λ (n : ℕ). length (spelling n)) n ns,
+      counted ns,
+      length-append (spelling n) (spell_all ns),
     )
+
+pub spell_sum : (ns : List ℕ) → sum (map (λ n. length (spelling n)) ns) ≡ length (spell_all ns)
+spell_sum ns = sum-map (λ (n : ℕ). length (spelling n)) ns ∙ counted ns
 
 -- ---- written
 

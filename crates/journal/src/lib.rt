@@ -6,21 +6,46 @@
 ghost use Rattle.std.specs.Prelude.{◌≡◌};
 ghost use Rattle.journal.specs.Journal.{appended, append_buffer, nothing_at, read_at};
 ghost use Rattle.journal.specs.Journal.{RoundTrip, OneSpelling};
-ghost use Rattle.journal.specs.Inner.{refusal_of};
+ghost use Rattle.journal.specs.Inner.{refusal_number, taken};
 ghost use Rattle.journal.specs.Examples.{ReadExamples, WriteExamples};
 
 mod entries;
 mod numbers;
 
-// The numbers of a refusal: no space for the whole entry, cut short, and a wrong spelling or a value out of range.
-const NO_SPACE: u8 = 22;
+// What refuses an entry, or the bytes of one.
+#[derive(Clone, Copy, PartialEq, Eq)]
+pub(crate) enum Refusal {
+    // 22: no space for the whole entry.
+    NoSpace,
+    // 23: cut short.
+    CutShort,
+    // 24: a wrong spelling, or a value out of range.
+    Wrong,
+}
 
-pub(crate) const CUT_SHORT: u8 = 23;
+// The number of the paper.
+impl From<Refusal> for u8 {
+    ghost from_gives = { λ refusal number. number ≡ refusal_number refusal };
 
-pub(crate) const WRONG: u8 = 24;
+    fn from(refusal: Refusal) -> u8 {
+        match refusal {
+            Refusal::NoSpace => 22,
+            Refusal::CutShort => 23,
+            Refusal::Wrong => 24,
+        }
+    }
+}
+
+// What was read, and the place after it.
+#[derive(Clone, Copy)]
+pub(crate) struct Found<T> {
+    pub(crate) value: T,
+    pub(crate) next: usize,
+}
 
 // A move that ended: ticks moved, the ending one included, why (0 where m reached M, else 1, stopped), and five signed
 // travels.
+// The cause is a number and no enum: C reads it.
 #[repr(C)]
 #[derive(Drop)]
 pub struct Entry {
@@ -36,7 +61,8 @@ pub const NO_ENTRY: Entry = Entry {
     travels: [0, 0, 0, 0, 0],
 };
 
-// The place after the entry and 0; or the given place with 24 or 22.
+// The place after the entry and 0; or the given place with 24 or 22. C reads this struct (it is exported), hence a number
+// beside the place and no `Result`.
 #[repr(C)]
 #[derive(Drop)]
 pub struct Appended {
@@ -45,7 +71,7 @@ pub struct Appended {
 }
 
 // An entry: found, the place after it, 0. The journal's end: not found, 0. A refusal: not found, 23 or 24. Where none
-// is found the entry is all zeros, and the place is the given one.
+// is found the entry is all zeros, and the place is the given one. C reads this struct too, hence no `Option` or `Result`.
 #[repr(C)]
 #[derive(Drop)]
 pub struct EntryAt {
@@ -55,22 +81,18 @@ pub struct EntryAt {
     pub number: u8,
 }
 
-// What refuses an entry with these numbers at the place `at` of a buffer of this length: 24 before 22; 0 if nothing
-// does. The test makes no sum of `at`, so that an `at` near 2^64 is answered too.
-fn refusal(length: usize, at: usize, numbers: [u64; 7]) -> u8
-    ensures { result ≡ refusal_of length at numbers }
+// Whether an entry with these numbers can be written at the place `at` of a buffer of this length. An `at` near 2^64 is
+// answered too.
+fn takes(length: usize, at: usize, numbers: [u64; 7]) -> Result<(), Refusal>
+    ensures { result ≡ taken length at numbers }
 {
     if !entries::fit(numbers) {
-        return WRONG;
+        return Err(Refusal::Wrong);
     }
-    let need = entries::total(numbers);
-    if length < need {
-        return NO_SPACE;
+    match at.checked_add(entries::total(numbers)) {
+        Some(end) if end <= length => Ok(()),
+        _ => Err(Refusal::NoSpace),
     }
-    if length - need < at {
-        return NO_SPACE;
-    }
-    0
 }
 
 // The entry at the place `at`, and the place after it; on a refusal nothing is altered, and the place is the given one.
@@ -81,12 +103,16 @@ pub fn append(buf: &mut [u8], at: usize, entry: Entry) -> Appended
     ensures write_examples { WriteExamples }
 {
     let numbers = entries::numbers_of(entry);
-    let number = refusal(buf.len(), at, numbers);
-    if number != 0 {
-        return Appended { next: at, number };
+    match takes(buf.len(), at, numbers) {
+        Ok(()) => Appended {
+            next: entries::write_all(buf, at, numbers),
+            number: 0,
+        },
+        Err(refusal) => Appended {
+            next: at,
+            number: refusal.into(),
+        },
     }
-    let next = entries::write_all(buf, at, numbers);
-    Appended { next, number: 0 }
 }
 
 // No entry from the place `at` on, for this reason.
@@ -110,16 +136,13 @@ pub fn read(bytes: &[u8], at: usize) -> EntryAt
     if bytes.len() <= at {
         return nothing(at, 0);
     }
-    let all = entries::read_all(bytes, at);
-    if all.number != 0 {
-        return nothing(at, all.number);
-    }
-    let values = all.values;
-    let entry = entries::entry_from(values);
-    EntryAt {
-        entry,
-        next: all.next,
-        found: true,
-        number: 0,
+    match entries::read_all(bytes, at) {
+        Ok(all) => EntryAt {
+            entry: entries::entry_from(all.value),
+            next: all.next,
+            found: true,
+            number: 0,
+        },
+        Err(refusal) => nothing(at, refusal.into()),
     }
 }

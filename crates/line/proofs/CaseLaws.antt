@@ -1,4 +1,8 @@
 -- Lines that differ in the case of letters alone are judged alike (specs/Case.antt). Assumes nothing.
+use Rattle.line.specs.declared.Accepted.{Accepted}
+use Rattle.line.specs.declared.Refusal.{Refusal}
+use Rattle.line.specs.declared.Refusal.TheVariants as N
+use Rattle.std.proofs.Common.{Option, Some, None, Result}
 use Prim.Native.Nat.{ℕ, ◌-◌, ◌≤◌, ◌<◌, min}
 use mathlib.Core.Bool.{Bool, false, not, ◌||◌}
 use mathlib.Core.List.{List, [], ◌∷◌, map}
@@ -8,22 +12,20 @@ use borrow.Author.Tests.{lt-ltb, le-ltb}
 use lib.Dec.{ltb}
 use Rattle.laws.proofs.Pick.{by_lt}
 use Rattle.digits.specs.declared.Digit.{Digit}
-use Rattle.digits.specs.declared.Digit.TheVariants.{Other, Capital, Small}
+use Rattle.digits.specs.declared.Digit.TheVariants.{Capital, Small}
 use Rattle.digits.specs.declared.Number.{Number}
-use Rattle.digits.specs.declared.Number.TheVariants.{NotDigits, Value}
-use Rattle.digits.specs.Digits.{digit_of, join_digit, join_of, read_on, number_of}
+use Rattle.digits.specs.Digits.{digit_of, join_digit, join_of, read_on, number_of, numbered}
 use Rattle.digits.specs.Characters.{is_digit}
-use Rattle.line.specs.declared.Judged.{Judged}
 use Rattle.line.specs.Line.{char_at, is_letter, is_switch, is_ident, is_number, value_of, digit_chars, turned_away, judge_value, judge_of}
 use Rattle.line.specs.Case.{raised, CaseIgnored}
 
 -- ---- A digit
 
 -- Without its case, told as a capital.
-plain : Digit → Digit
-plain Other = Other
-plain (Capital v) = Capital v
-plain (Small v) = Capital v
+plain : Option Digit → Option Digit
+plain None = None
+plain (Some (Capital v)) = Some (Capital v)
+plain (Some (Small v)) = Some (Capital v)
 
 -- Below a, from a to f, and beyond, a digit without its case is that of the capital.
 low : (c : ℕ) → c < 97 → plain (digit_of c) ≡ digit_of c
@@ -32,7 +34,7 @@ low c h =
     by_lt P c 48 _ _ (λ _. refl) λ _. by_lt P c 58 _ _ (λ _. refl) λ _. by_lt P c 65 _ _ (λ _. refl)
     λ _. by_lt P c 71 _ _ (λ _. refl) λ _. by_lt P c 97 _ _ (λ _. refl) (λ k. absurd (omega (arith, h, k)))
   where
-    P : Digit → Type 0
+    P : Option Digit → Type 0
     P d = plain d ≡ d
 
 mid : (c : ℕ) → 97 ≤ c → c < 103 → plain (digit_of c) ≡ digit_of (c - 32)
@@ -58,7 +60,7 @@ mid c h k =
       le-ltb _ _ b2,
       le-ltb _ _ b3,
       lt-ltb _ _ b4,
-    ) (ap Capital e)
+    ) (ap (λ (x : ℕ). Some (Capital x)) e)
 
 high : (c : ℕ) → 103 ≤ c → plain (digit_of c) ≡ digit_of c
 unfolding plain
@@ -75,11 +77,11 @@ plain_raised c =
     by_lt (λ (x : ℕ). plain (digit_of c) ≡ digit_of x) c 97 _ _ (low c)
     (λ h. by_lt (λ (x : ℕ). plain (digit_of c) ≡ digit_of x) c 103 _ _ (mid c h) (high c))
 
-is_plain : (d : Digit) → is_digit (plain d) ≡ is_digit d
+is_plain : (d : Option Digit) → is_digit (plain d) ≡ is_digit d
 unfolding plain
-is_plain Other = refl
-is_plain (Capital v) = refl
-is_plain (Small v) = refl
+is_plain None = refl
+is_plain (Some (Capital v)) = refl
+is_plain (Some (Small v)) = refl
 
 same_ident : (c e : ℕ) → raised c ≡ raised e → is_ident (digit_of c) ≡ is_ident (digit_of e)
 same_ident c e q =
@@ -88,52 +90,52 @@ same_ident c e q =
 
 -- ---- A number, without the case of its letters
 
-told : Number → Number
-told NotDigits = NotDigits
-told (Value n small) = Value n false
+told : Option Number → Option Number
+told None = None
+told (Some x) = numbered x.value false
 
-told_digit : (n : ℕ) (s : Bool) (d : Digit) → told (join_digit n s d) ≡ join_digit n false (plain d)
+told_digit : (n : ℕ) (s : Bool) (d : Option Digit) → told (join_digit n s d) ≡ join_digit n false (plain d)
 unfolding told plain
-told_digit n s Other = refl
-told_digit n s (Capital v) = refl
-told_digit n s (Small v) = when s
+told_digit n s None = refl
+told_digit n s (Some (Capital v)) = refl
+told_digit n s (Some (Small v)) = when s
   where
-    when : (t : Bool) → told (join_digit n t (Small v)) ≡ join_digit n false (Capital v)
+    when : (t : Bool) → told (join_digit n t (Some (Small v))) ≡ join_digit n false (Some (Capital v))
     when t = refl
 
-told_join : (m : Number) (c : ℕ) → told (join_of m c) ≡ join_of (told m) (raised c)
+told_join : (m : Option Number) (c : ℕ) → told (join_of m c) ≡ join_of (told m) (raised c)
 unfolding told
-told_join NotDigits c = refl
-told_join (Value n s) c = told_digit n s (digit_of c) ∙ ap (join_digit n false) (plain_raised c)
+told_join None c = refl
+told_join (Some x) c = told_digit x.value x.small (digit_of c) ∙ ap (join_digit x.value false) (plain_raised c)
 
-told_on : (m : Number) (cs : List ℕ) → told (read_on m cs) ≡ read_on (told m) (map raised cs)
+told_on : (m : Option Number) (cs : List ℕ) → told (read_on m cs) ≡ read_on (told m) (map raised cs)
 told_on m [] = refl
-told_on m (c ∷ cs) = told_on (join_of m c) cs ∙ ap (λ (x : Number). read_on x (map raised cs)) (told_join m c)
+told_on m (c ∷ cs) = told_on (join_of m c) cs ∙ ap (λ (x : Option Number). read_on x (map raised cs)) (told_join m c)
 
 same_told : (cs es : List ℕ) → map raised cs ≡ map raised es → told (number_of cs) ≡ told (number_of es)
 unfolding number_of told
 same_told cs es q =
-    told_on (Value 0 false) cs ∙ (ap (read_on (Value 0 false)) q ∙ sym (told_on (Value 0 false) es))
+    told_on (numbered 0 false) cs ∙ (ap (read_on (numbered 0 false)) q ∙ sym (told_on (numbered 0 false) es))
 
-told_number : (m : Number) → is_number (told m) ≡ is_number m
+told_number : (m : Option Number) → is_number (told m) ≡ is_number m
 unfolding told
-told_number NotDigits = refl
-told_number (Value n s) = refl
+told_number None = refl
+told_number (Some x) = refl
 
-told_value : (m : Number) → value_of (told m) ≡ value_of m
+told_value : (m : Option Number) → value_of (told m) ≡ value_of m
 unfolding told
-told_value NotDigits = refl
-told_value (Value n s) = refl
+told_value None = refl
+told_value (Some x) = refl
 
 -- ---- A line
 
 -- The judgement by what it looks at.
-judge_by : ℕ → ℕ → ℕ → Bool → Bool → ℕ → Judged
+judge_by : ℕ → ℕ → ℕ → Bool → Bool → ℕ → Result Accepted Refusal
 judge_by size letter switch named digits n =
-    turned_away 4 (ltb size 2 || ltb 9 size)
-    (turned_away 5 (not (is_letter letter))
-    (turned_away 6 (not (is_switch switch))
-    (turned_away 7 (not named || not digits)
+    turned_away N.Length (ltb size 2 || ltb 9 size)
+    (turned_away N.Letter (not (is_letter letter))
+    (turned_away N.Switch (not (is_switch switch))
+    (turned_away N.Digits (not named || not digits)
     (judge_value letter (min 6 (size - 2)) n))))
 
 pub case_ignored : CaseIgnored

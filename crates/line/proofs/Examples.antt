@@ -1,4 +1,6 @@
 -- Worked examples of lines, by computation. Assumes nothing.
+use Rattle.line.specs.declared.Refusal.TheVariants as N
+use Rattle.std.proofs.Common.{Err}
 use Prim.Native.Nat.{ℕ}
 use Prim.Native.Char.{code}
 use Prim.Native.String as S
@@ -9,8 +11,7 @@ use lib.ListN.{replicate}
 use Rattle.digits.specs.Digits.{number_of}
 use Rattle.line.specs.declared.command.Command.TheVariants as C
 use Rattle.line.specs.declared.command.Reading.TheVariants as R
-use Rattle.line.specs.declared.Judged.TheVariants.{Accepted, Refused}
-use Rattle.line.specs.Line.{silent_of, judge_row, judge_of}
+use Rattle.line.specs.Line.{silent_of, judge_row, judge_of, accepting}
 
 -- The characters of a text.
 abbrev pub chars : S.String → List ℕ
@@ -22,19 +23,19 @@ abbrev pub over_long : List ℕ
 over_long = chars "P4" ++ replicate 262 48
 
 pub record Examples : Type 0 where
-  pub speed_full : judge_of (chars "P08F4240") ≡ Accepted (C.Set 8 1000000) 0x8F4240
-  pub speed_over : judge_of (chars "P08F4241") ≡ Refused 10
-  pub distance_minus : judge_of (chars "P0281388") ≡ Accepted (C.Distance 2 true 5000) 0x281388
-  pub digits_absent : judge_of (chars "Q0B1fa") ≡ Accepted (C.Order 11) 0xB1FA00
-  pub line_empty : judge_of [] ≡ Refused 4
-  pub inputs_query : judge_of (chars "W0") ≡ Accepted (C.Read R.Inputs) 0
-  pub outputs_short : judge_of (chars "W01") ≡ Refused 9
-  pub code_absent : judge_of (chars "P0") ≡ Refused 8
-  pub switch_wrong : judge_of (chars "P1") ≡ Refused 6
-  pub ident_small : judge_of (chars "P08f4240f") ≡ Accepted (C.Set 8 1000000) 0x8F4240
-  pub ident_none : judge_of (chars "P08f4240g") ≡ Refused 7
+  pub speed_full : judge_of (chars "P08F4240") ≡ accepting (C.Set 8 1000000) 0x8F4240
+  pub speed_over : judge_of (chars "P08F4241") ≡ Err N.Range
+  pub distance_minus : judge_of (chars "P0281388") ≡ accepting (C.Distance 2 true 5000) 0x281388
+  pub digits_absent : judge_of (chars "Q0B1fa") ≡ accepting (C.Order 11) 0xB1FA00
+  pub line_empty : judge_of [] ≡ Err N.Length
+  pub inputs_query : judge_of (chars "W0") ≡ accepting (C.Read R.Inputs) 0
+  pub outputs_short : judge_of (chars "W01") ≡ Err N.Count
+  pub code_absent : judge_of (chars "P0") ≡ Err N.Code
+  pub switch_wrong : judge_of (chars "P1") ≡ Err N.Switch
+  pub ident_small : judge_of (chars "P08f4240f") ≡ accepting (C.Set 8 1000000) 0x8F4240
+  pub ident_none : judge_of (chars "P08f4240g") ≡ Err N.Digits
   pub long_silent : silent_of over_long ≡ true
-  pub long_refused : judge_of over_long ≡ Refused 4
+  pub long_refused : judge_of over_long ≡ Err N.Length
 
 pub examples : Examples
 unfolding judge_of judge_row number_of

@@ -1,5 +1,6 @@
 -- Every judged line fits: an accepted line's command is in range, an order's digits are its own, a W query has no
 -- digits, and a line is turned away by a number from 4 to 10. Assumes nothing.
+use Rattle.std.proofs.Common.{Option, Some, None}
 use Prim.Native.Nat.{ℕ, ◌≤◌, ◌<◌}
 use native.Mathlib.Omega.{arith}
 use mathlib.Core.Bool.{true, false, false≢true}
@@ -9,13 +10,11 @@ use lib.Dec.{lit≤}
 use Rattle.laws.proofs.Pick.{by_bool, by_eq}
 use Rattle.digits.specs.Digits.{six_digits, number_of, Under}
 use Rattle.digits.specs.declared.Number.{Number}
-use Rattle.digits.specs.declared.Number.TheVariants.{NotDigits, Value}
 use Rattle.digits.proofs.Six.{under_six}
 use Rattle.line.specs.declared.command.Command.{Command}
 use Rattle.line.specs.declared.row.Row.{Row}
-use Rattle.line.specs.declared.row.Row.TheVariants.{Unlisted, Listed}
 use Rattle.line.specs.Ranges.{is_within, is_axis, is_order}
-use Rattle.line.specs.Codes.{letter_p, letter_q, letter_w, code, five, row_p, row_q, rowq, row_of, is_query}
+use Rattle.line.specs.Codes.{letter_p, letter_q, letter_w, code, five, row_p, row_q, rowq, row_of, is_query, listed}
 use Rattle.line.specs.Fits.{OrderFits, JudgedFits}
 use Rattle.line.specs.Line.{char_at, digit_count, digit_chars, value_of, judge_of}
 use Rattle.line.proofs.Ranges.{within}
@@ -28,9 +27,9 @@ pub record Own (count n : ℕ) (c : Command) : Type 0 where
   pub order : OrderFits c n
   pub bare : is_query c ≡ true → count ≡ 0
 
-abbrev RowOwn : ℕ → ℕ → Row → Type 0
-RowOwn count n Unlisted = 0 < 1
-RowOwn count n (Listed least c) = Own count n c
+abbrev RowOwn : ℕ → ℕ → Option Row → Type 0
+RowOwn count n None = 0 < 1
+RowOwn count n (Some row) = Own count n row.command
 
 always : 0 < 1
 always = omega arith
@@ -75,14 +74,14 @@ module _ (count n : ℕ) where
       λ _. small_own
 
   -- Of a listed row.
-  pub owned : (letter least : ℕ) (c : Command) → row_of letter count n ≡ Listed least c → Own count n c
+  pub owned : (letter least : ℕ) (c : Command) → row_of letter count n ≡ listed least c → Own count n c
   owned letter least c e = subst (RowOwn count n) e (row_own letter)
 
 -- ---- lines
 
-value_under : (b : ℕ) (x : Number) → 0 < b → Under b x → value_of x < b
-value_under b NotDigits p h = p
-value_under b (Value n small) p h = h
+value_under : (b : ℕ) (x : Option Number) → 0 < b → Under b x → value_of x < b
+value_under b None p h = p
+value_under b (Some x) p h = h
 
 -- Every line's judgement fits.
 pub judge_fits : (l : List ℕ) → JudgedFits (judge_of l)

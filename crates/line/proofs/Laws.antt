@@ -1,4 +1,8 @@
 -- Laws of the line judged: a character at a place, and each of the checks 4 to 7 met or passed. Assumes nothing.
+use Rattle.line.specs.declared.Accepted.{Accepted}
+use Rattle.line.specs.declared.Refusal.{Refusal}
+use Rattle.line.specs.declared.Refusal.TheVariants as N
+use Rattle.std.proofs.Common.{Result, Err}
 use Prim.Native.Nat.{ℕ, zero, suc, ◌≤◌, ◌<◌}
 use native.Mathlib.Omega.{arith}
 use native.Mathlib.Nat.{le_of_suc-le-suc}
@@ -9,8 +13,6 @@ use lib.ListN.{length, take, get_or, get_or-eq_default}
 use lib.Seq.{get_or-take}
 use borrow.Author.Tests.{lt-ltb, le-ltb, not-true, not-false}
 use Rattle.digits.specs.Digits.{digit_of, number_of}
-use Rattle.line.specs.declared.Judged.{Judged}
-use Rattle.line.specs.declared.Judged.TheVariants.{Refused}
 use Rattle.line.specs.Line.{
   char_at,
   is_letter,
@@ -49,34 +51,34 @@ was_true {r} f e p h = sym (e ∙ ap f p) ∙ not-false r h
 
 -- ---- the checks in order
 
-pub too_short : (l : List ℕ) → length l < 2 → Refused 4 ≡ judge_of l
+pub too_short : (l : List ℕ) → length l < 2 → Err N.Length ≡ judge_of l
 unfolding judge_of
 too_short l h = rw (lt-ltb (length l) 2 h)
 
-pub too_long : (l : List ℕ) → 9 < length l → Refused 4 ≡ judge_of l
+pub too_long : (l : List ℕ) → 9 < length l → Err N.Length ≡ judge_of l
 unfolding judge_of
 too_long l h =
     let k : 2 ≤ length l = omega arith in
     rw (le-ltb (length l) 2 k, lt-ltb 9 (length l) h)
 
 module _ (l : List ℕ) (low : 2 ≤ length l) (high : length l ≤ 9) where
-  pub wrong_letter : is_letter (char_at l 0) ≡ false → Refused 5 ≡ judge_of l
+  pub wrong_letter : is_letter (char_at l 0) ≡ false → Err N.Letter ≡ judge_of l
   unfolding judge_of
   wrong_letter h = rw (le-ltb (length l) 2 low, le-ltb 9 (length l) high, h)
 
-  pub wrong_switch : is_letter (char_at l 0) ≡ true → is_switch (char_at l 1) ≡ false → Refused 6 ≡ judge_of l
+  pub wrong_switch : is_letter (char_at l 0) ≡ true → is_switch (char_at l 1) ≡ false → Err N.Switch ≡ judge_of l
   unfolding judge_of
   wrong_switch h k = rw (le-ltb (length l) 2 low, le-ltb 9 (length l) high, h, k)
 
   pub wrong_ident : is_letter (char_at l 0) ≡ true → is_switch (char_at l 1) ≡ true
       → is_ident (digit_of (char_at l 8)) ≡ false
-      → Refused 7 ≡ judge_of l
+      → Err N.Digits ≡ judge_of l
   unfolding judge_of
   wrong_ident h k m = rw (le-ltb (length l) 2 low, le-ltb 9 (length l) high, h, k, m)
 
-  pub then_digits : {r : Judged} → is_letter (char_at l 0) ≡ true → is_switch (char_at l 1) ≡ true
+  pub then_digits : {r : Result Accepted Refusal} → is_letter (char_at l 0) ≡ true → is_switch (char_at l 1) ≡ true
       → is_ident (digit_of (char_at l 8)) ≡ true
-      → r ≡ turned_away 7 (not (is_number (number_of (digit_chars l))))
+      → r ≡ turned_away N.Digits (not (is_number (number_of (digit_chars l))))
       (judge_value (char_at l 0) (digit_count l) (value_of (number_of (digit_chars l))))
       → r ≡ judge_of l
   unfolding judge_of
@@ -84,8 +86,8 @@ module _ (l : List ℕ) (low : 2 ≤ length l) (high : length l ≤ 9) where
 
 -- ---- the checks 8 to 10
 
-pub refuse : {r t : Bool} (n : ℕ) (rest : Judged) → r ≡ t → not r ≡ true → Refused n ≡ turned_away n (not t) rest
+pub refuse : {r t : Bool} (n : Refusal) (rest : Result Accepted Refusal) → r ≡ t → not r ≡ true → Err n ≡ turned_away n (not t) rest
 refuse {r} {t} n rest e h = rw (← e, not-true r h)
 
-pub pass : {r t : Bool} {x rest : Judged} (n : ℕ) → r ≡ t → not r ≡ false → x ≡ rest → x ≡ turned_away n (not t) rest
+pub pass : {r t : Bool} {x rest : Result Accepted Refusal} (n : Refusal) → r ≡ t → not r ≡ false → x ≡ rest → x ≡ turned_away n (not t) rest
 pass {r} {t} n e h p = rw (← e, not-false r h) p

@@ -1,10 +1,11 @@
 -- What a line can ask for: the ranges of paper 01 ("Lines"), as facts about a judged line.
-use Rattle.std.specs.Prelude.{ℕ, ◌%◌, ◌≤◌, ◌<◌, true, ◌≡◌, leb}
+use Rattle.line.specs.declared.Accepted.{Accepted}
+use Rattle.line.specs.declared.Refusal.{Refusal}
+use Rattle.line.specs.Line.{refusal_number}
+use Rattle.std.specs.Prelude.{ℕ, ◌%◌, ◌≤◌, ◌<◌, true, ◌≡◌, leb, Result, Ok, Err}
 use Rattle.digits.specs.Digits.{six_digits}
 use Rattle.line.specs.declared.command.Command.{Command}
 use Rattle.line.specs.declared.command.Command.TheVariants as C
-use Rattle.line.specs.declared.Judged.{Judged}
-use Rattle.line.specs.declared.Judged.TheVariants.{Accepted, Refused}
 use Rattle.line.specs.Ranges.{fits}
 use Rattle.line.specs.Codes.{code, five, second}
 
@@ -29,6 +30,6 @@ pub record AcceptedFits (c : Command) (n : ℕ) : Type 0 where
   pub order : OrderFits c n
 
 -- A judged line: accepted as above, or turned away by a number from 4 to 10.
-abbrev pub JudgedFits : Judged → Type 0
-JudgedFits (Accepted c n) = AcceptedFits c n
-JudgedFits (Refused n) = (4 ≤ n) × (n ≤ 10)
+abbrev pub JudgedFits : Result Accepted Refusal → Type 0
+JudgedFits (Ok a) = AcceptedFits a.command a.digits
+JudgedFits (Err r) = (4 ≤ refusal_number r) × (refusal_number r ≤ 10)

@@ -1,14 +1,13 @@
 -- A judgement in the paper's terms ("Turned away", 4 to 10): its number and values for each case, and what they are for
 -- every line.
-use Rattle.std.specs.Prelude.{ℕ, Bool, true, false, cond, not, ◌||◌, List, [], ◌∷◌, ltb, eqb, length}
+use Rattle.line.specs.declared.Accepted.{Accepted}
+use Rattle.line.specs.declared.Refusal.{Refusal}
+use Rattle.std.specs.Prelude.{ℕ, Bool, true, false, cond, not, ◌||◌, List, [], ◌∷◌, ltb, eqb, length, Option, Some, None, Result, Ok, Err}
 use Rattle.digits.specs.Digits.{digit_of, number_of}
 use Rattle.line.specs.declared.command.Command.{Command}
 use Rattle.line.specs.declared.row.Row.{Row}
-use Rattle.line.specs.declared.row.Row.TheVariants.{Unlisted, Listed}
-use Rattle.line.specs.declared.Judged.{Judged}
-use Rattle.line.specs.declared.Judged.TheVariants.{Accepted, Refused}
 use Rattle.line.specs.Ranges.{is_within, fits}
-use Rattle.line.specs.Codes.{row_of}
+use Rattle.line.specs.Codes.{row_of, listed}
 use Rattle.line.specs.Line.{
   char_at,
   is_letter,
@@ -18,6 +17,7 @@ use Rattle.line.specs.Line.{
   value_of,
   digit_chars,
   digit_count,
+  refusal_number,
 }
 
 -- What an accepted line asks for: its command and its six digits, absent ones 0.
@@ -31,12 +31,12 @@ pub record Verdict : Type 0 where
   pub asked : List Asked
 
 -- The paper's number and values for each case of a judgement: 0 with the command and its digits, or the number alone.
-abbrev pub verdict_of : Judged → Verdict
-verdict_of (Accepted command digits) = record {
+abbrev pub verdict_of : Result Accepted Refusal → Verdict
+verdict_of (Ok a) = record {
   number = 0;
-  asked = record { command = command; digits = digits } ∷ [];
+  asked = record { command = a.command; digits = a.digits } ∷ [];
 }
-verdict_of (Refused number) = record { number = number; asked = [] }
+verdict_of (Err r) = record { number = refusal_number r; asked = [] }
 
 -- A rule: its number, and whether it applies.
 pub record Rule : Type 0 where
@@ -50,21 +50,21 @@ first_of (r ∷ rs) = cond r.applies r.number (first_of rs)
 
 -- What a row of the table says: that the code is listed, that it takes this many digits, that its value is in range,
 -- and what it asks for.
-abbrev pub is_listed : Row → Bool
-is_listed Unlisted = false
-is_listed (Listed least c) = true
+abbrev pub is_listed : Option Row → Bool
+is_listed None = false
+is_listed (Some row) = true
 
-abbrev pub has_count : Row → ℕ → Bool
-has_count Unlisted count = false
-has_count (Listed least c) count = is_within count least 6
+abbrev pub has_count : Option Row → ℕ → Bool
+has_count None count = false
+has_count (Some row) count = is_within count row.least 6
 
-abbrev pub in_range : Row → Bool
-in_range Unlisted = false
-in_range (Listed least c) = fits c
+abbrev pub in_range : Option Row → Bool
+in_range None = false
+in_range (Some row) = fits row.command
 
-abbrev pub asked_by : Row → ℕ → List Asked
-asked_by Unlisted n = []
-asked_by (Listed least c) n = record { command = c; digits = n } ∷ []
+abbrev pub asked_by : Option Row → ℕ → List Asked
+asked_by None n = []
+asked_by (Some row) n = record { command = row.command; digits = n } ∷ []
 
 -- 4. Under 2 or over 9 characters. 5. First character not P, Q, q, W. 6. Second not 0 or 4.
 -- 7. A later character is no digit, or the ninth no identification. 8. P, Q, q: code absent or unlisted.

@@ -33,6 +33,8 @@ pub enum Command {
     Distance { axis: u8, minus: bool, length: u32 },
     // A setting by its code: P 8 speed in units of 0.25 Hz, 9 slope in units of 1.25 kHz/s, A dwell in ms, B watch (bit
     // 0 stops the axes, bit 1 clears the outputs), C polarity; Q D and E the low-ON and high-ON settings of the inputs.
+    // The code stays a number, here and in an order: `fits` judges every one, and the writer has 19 for each that is
+    // none (`has_line` of host).
     Set { code: u8, value: u32 },
     // Q 8: at once, or after the dwell.
     Start { master: u8, waits: bool },
@@ -49,48 +51,29 @@ pub enum Command {
 pub fn within(n: u32, low: u32, high: u32) -> bool
     ensures { result ≡ is_within n low high }
 {
-    if n < low {
-        return false;
-    }
-    n <= high
+    low <= n && n <= high
 }
 
 // Bits 0-9, 12 and 13 only: none from 14 on, and not 10 or 11.
 pub fn input_bits(v: u32) -> bool
     ensures { result ≡ input_bits v }
 {
-    if v / 16384 == 0 {
-        return v / 1024 % 4 == 0;
-    }
-    false
+    v / 16384 == 0 && v / 1024 % 4 == 0
 }
 
 // A setting's range, by its code.
 fn setting_fits(code: u8, v: u32) -> bool
     ensures { result ≡ setting_fits code v }
 {
-    if code == 8 {
-        return within(v, 1, TOP_SPEED);
+    match code {
+        8 => within(v, 1, TOP_SPEED),
+        9 => within(v, 1, TOP_SLOPE),
+        10 => v <= 16383,
+        11 => v <= 3,
+        12 => v <= 4095,
+        13 | 14 => input_bits(v),
+        _ => false,
     }
-    if code == 9 {
-        return within(v, 1, TOP_SLOPE);
-    }
-    if code == 10 {
-        return v <= 16383;
-    }
-    if code == 11 {
-        return v <= 3;
-    }
-    if code == 12 {
-        return v <= 4095;
-    }
-    if code == 13 {
-        return input_bits(v);
-    }
-    if code == 14 {
-        return input_bits(v);
-    }
-    false
 }
 
 // A reading's axis is one of the five.
@@ -98,11 +81,8 @@ fn reading_fits(reading: Reading) -> bool
     ensures { result ≡ reading_fits reading }
 {
     match reading {
-        Reading::Travel(axis) => axis < AXES,
-        Reading::Position(axis) => axis < AXES,
-        Reading::Status => true,
-        Reading::Everything => true,
-        Reading::Inputs => true,
+        Reading::Travel(axis) | Reading::Position(axis) => axis < AXES,
+        Reading::Status | Reading::Everything | Reading::Inputs => true,
     }
 }
 
@@ -110,10 +90,7 @@ fn reading_fits(reading: Reading) -> bool
 fn distance_fits(axis: u8, length: u32) -> bool
     ensures { result ≡ distance_fits axis length }
 {
-    if axis < AXES {
-        return length < digits::TOP_BIT;
-    }
-    false
+    axis < AXES && length < digits::TOP_BIT
 }
 
 // The codes of the orders that name nothing else.
@@ -145,13 +122,7 @@ pub fn fits(command: Command) -> bool
 pub fn is_inputs(reading: Reading) -> bool
     ensures { result ≡ is_inputs reading }
 {
-    match reading {
-        Reading::Travel(_) => false,
-        Reading::Position(_) => false,
-        Reading::Status => false,
-        Reading::Everything => false,
-        Reading::Inputs => true,
-    }
+    matches!(reading, Reading::Inputs)
 }
 
 // Whether a command is a W line's, query or not.
@@ -159,18 +130,8 @@ pub fn is_w(command: Command) -> bool
     ensures { result ≡ is_w command }
 {
     match command {
-        Command::Distance {
-            axis: _,
-            minus: _,
-            length: _,
-        } => false,
-        Command::Set { code: _, value: _ } => false,
-        Command::Start {
-            master: _,
-            waits: _,
-        } => false,
-        Command::Order(_) => false,
         Command::Outputs(_) => true,
-        Command::Read(r) => is_inputs(r),
+        Command::Read(reading) => is_inputs(reading),
+        _ => false,
     }
 }

@@ -7,17 +7,5 @@ ghost use Rattle.line.specs.Distances.{some_longer};
 pub fn some_longer(distances: [u32; 5], length: u32) -> bool
     ensures { result ≡ some_longer distances length }
 {
-    if length < distances[0] {
-        return true;
-    }
-    if length < distances[1] {
-        return true;
-    }
-    if length < distances[2] {
-        return true;
-    }
-    if length < distances[3] {
-        return true;
-    }
-    length < distances[4]
+    distances.iter().any(|&d| length < d)
 }

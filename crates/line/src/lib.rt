@@ -3,54 +3,78 @@
 // Every public function is total: it has no premise and states its result for every input. Assumes nothing.
 #![tactic(auto)]
 
-ghost use Rattle.std.specs.Prelude.{◌-◌, min, not, ◌≡◌, take};
+ghost use Rattle.std.specs.Prelude.{not, ◌≡◌};
 ghost use Rattle.digits.specs.Digits.{six_digits, digit_of, number_of, Under};
 ghost use Rattle.digits.specs.Characters.{digit_characters, is_one};
-ghost use Rattle.line.specs.Line.{is_letter, is_switch, is_ident, is_number, value_of, char_at, silent_of, ident_of};
-ghost use Rattle.line.specs.Line.{digit_chars, turned_away, judge_row, judge_value, judge_of};
+ghost use Rattle.line.specs.Line.{is_letter, is_switch, is_ident, is_number, value_of, char_at, silent_of, ident_of, digit_count};
+ghost use Rattle.line.specs.declared.Refusal.TheVariants as N;
+ghost use Rattle.line.specs.Line.{digit_chars, refusal_number, turned_away, judge_row, judge_value, judge_of};
 ghost use Rattle.line.specs.Case.{CaseIgnored};
 ghost use Rattle.line.specs.Verdict.{verdict_of, line_verdict};
 
 use crate::command::Command;
 use crate::row::Row;
-use digits::{Digit, Ident, Number};
+use digits::Number;
 
 pub mod command;
 pub mod distances;
 mod row;
 
-// A line's judgement. The six digits as a number, absent ones 0, are kept for the echo of an order.
-#[derive(Drop)]
-pub enum Judged {
-    Accepted { command: Command, digits: u32 },
-    // The first number of 4 to 10 that applies.
-    Refused(u8),
+// An accepted line: what it asks for, and its six digits as a number, absent ones 0, kept for the echo of an order.
+#[derive(Clone, Copy)]
+pub struct Accepted {
+    pub command: Command,
+    pub digits: u32,
+}
+
+// What turns a line away, in checking order.
+#[derive(Clone, Copy, PartialEq, Eq)]
+pub enum Refusal {
+    // 4: under 2 or over 9 characters.
+    Length,
+    // 5: the first is not P, Q, q or W.
+    Letter,
+    // 6: the second is not 0 or 4.
+    Switch,
+    // 7: a later one is no digit, or the ninth no identification.
+    Digits,
+    // 8: the code is absent or not in the table.
+    Code,
+    // 9: the code takes not as many digits.
+    Count,
+    // 10: a value is out of its range.
+    Range,
+}
+
+// The number of the paper.
+impl From<Refusal> for u8 {
+    ghost from_gives = { λ refusal number. number ≡ refusal_number refusal };
+
+    fn from(refusal: Refusal) -> u8 {
+        match refusal {
+            Refusal::Length => 4,
+            Refusal::Letter => 5,
+            Refusal::Switch => 6,
+            Refusal::Digits => 7,
+            Refusal::Code => 8,
+            Refusal::Count => 9,
+            Refusal::Range => 10,
+        }
+    }
 }
 
 // P, Q, q or W.
 fn is_letter(c: u8) -> bool
     ensures { result ≡ is_letter c }
 {
-    if c == b'P' {
-        return true;
-    }
-    if c == b'Q' {
-        return true;
-    }
-    if c == b'q' {
-        return true;
-    }
-    c == b'W'
+    matches!(c, b'P' | b'Q' | b'q' | b'W')
 }
 
 // 0 or 4.
 fn is_switch(c: u8) -> bool
     ensures { result ≡ is_switch c }
 {
-    if c == b'0' {
-        return true;
-    }
-    c == b'4'
+    matches!(c, b'0' | b'4')
 }
 
 // Whether a character is an identification: one of the 22 digits, a letter in either case (paper 02, 7/14).
@@ -58,131 +82,93 @@ pub fn is_ident(c: u8) -> bool
     ensures value { result ≡ is_ident (digit_of c) }
     ensures value_2 { result ≡ is_one c digit_characters }
 {
-    let d = digits::read_digit(c);
-    match d {
-        Digit::Other => false,
-        Digit::Capital(_) => true,
-        Digit::Small(_) => true,
-    }
+    digits::read_digit(c).is_some()
 }
 
 // The character at a place of the line; an absent one counts as the digit 0.
-fn char_at(cs: [u8; 10], count: u16, i: usize) -> u8
-    ensures { result ≡ char_at (take count cs) i }
+fn char_at(line: &[u8], i: usize) -> u8
+    ensures { result ≡ char_at line.now i }
 {
-    if count as usize <= i {
-        return b'0';
-    }
-    if 10 <= i {
-        return b'0';
-    }
-    cs[i]
+    line.get(i).copied().unwrap_or(b'0')
 }
 
-// The six digits of the line as a number.
-fn read_digits(cs: [u8; 10], count: u16) -> Number
-    ensures { result ≡ number_of (digit_chars (take count cs)) }
+// The six digits of the line as a number, if all are digits.
+fn read_digits(line: &[u8]) -> Option<Number>
+    ensures { result ≡ number_of (digit_chars line.now) }
 {
-    digits::read_six([
-        char_at(cs, count, 2),
-        char_at(cs, count, 3),
-        char_at(cs, count, 4),
-        char_at(cs, count, 5),
-        char_at(cs, count, 6),
-        char_at(cs, count, 7),
-    ])
+    digits::read_six([2, 3, 4, 5, 6, 7].map(|i| char_at(line, i)))
 }
 
-// How many digits a line of count characters has.
-fn digit_count(count: u16) -> u16
-    ensures { result ≡ min 6 (count - 2) }
+// How many digits the line has.
+fn digit_count(line: &[u8]) -> u32
+    ensures { result ≡ digit_count line.now }
 {
-    if count < 2 {
-        return 0;
-    }
-    if 8 < count {
-        return 6;
-    }
-    count - 2
+    line.len().saturating_sub(2).min(6) as u32
 }
 
 // Checks 8 to 10, and the command of the row.
-fn judge_row(row: Row, count: u16, number: u32) -> Judged
+fn judge_row(row: Option<Row>, count: u32, number: u32) -> Result<Accepted, Refusal>
     ensures { result ≡ judge_row row count number }
 {
-    match row {
-        Row::Unlisted => Judged::Refused(8),
-        Row::Listed { least, command } => {
-            if !command::within(count as u32, least as u32, 6) {
-                return Judged::Refused(9);
-            }
-            if !command::fits(command) {
-                return Judged::Refused(10);
-            }
-            Judged::Accepted {
-                command,
-                digits: number,
-            }
-        }
+    let Some(row) = row else {
+        return Err(Refusal::Code);
+    };
+    if !command::within(count, row.least as u32, 6) {
+        return Err(Refusal::Count);
     }
+    if !command::fits(row.command) {
+        return Err(Refusal::Range);
+    }
+    Ok(Accepted {
+        command: row.command,
+        digits: number,
+    })
 }
 
 // Check 7 of the digits, then 8 to 10.
-fn judge_number(letter: u8, count: u16, number: Number) -> Judged
+fn judge_number(letter: u8, count: u32, number: Option<Number>) -> Result<Accepted, Refusal>
     requires { Under six_digits number }
-    ensures { result ≡ turned_away 7 (not (is_number number)) (judge_value letter count (value_of number)) }
+    ensures { result ≡ turned_away N.Digits (not (is_number number)) (judge_value letter count (value_of number)) }
 {
-    match number {
-        Number::NotDigits => Judged::Refused(7),
-        Number::Value {
-            number: n,
-            small: _,
-        } => {
-            let row = row::row_of(letter, count, n);
-            judge_row(row, count, n)
-        }
-    }
+    let Some(number) = number else {
+        return Err(Refusal::Digits);
+    };
+    let n = number.value;
+    judge_row(row::row_of(letter, count, n), count, n)
 }
 
 // Whether the line is silent.
-pub fn is_silent(cs: [u8; 10], count: u16) -> bool
-    ensures { result ≡ silent_of (take count cs) }
+pub fn is_silent(line: &[u8]) -> bool
+    ensures { result ≡ silent_of line.now }
 {
-    char_at(cs, count, 1) == b'4'
+    char_at(line, 1) == b'4'
 }
 
 // The line's identification.
-pub fn ident(cs: [u8; 10], count: u16) -> Ident
-    ensures { result ≡ ident_of (take count cs) }
+pub fn ident(line: &[u8]) -> Option<u8>
+    ensures { result ≡ ident_of line.now }
 {
-    if count == 9 {
-        return Ident::Given(char_at(cs, count, 8));
-    }
-    Ident::Absent
+    (line.len() == 9).then_some(char_at(line, 8))
 }
 
-// The line judged: its first ten characters (fewer if it has fewer), which tell an over-long line from a whole one.
-pub fn judge(cs: [u8; 10], count: u16) -> Judged
-    ensures value { result ≡ judge_of (take count cs) }
-    ensures result_value { verdict_of result ≡ line_verdict (take count cs) }
+// The line judged, of any length; its first ten characters tell an over-long one from a whole one.
+pub fn judge(line: &[u8]) -> Result<Accepted, Refusal>
+    ensures value { result ≡ judge_of line.now }
+    ensures result_value { verdict_of result ≡ line_verdict line.now }
     ensures case_ignored { CaseIgnored }
 {
-    if count < 2 {
-        return Judged::Refused(4);
+    if line.len() < 2 || 9 < line.len() {
+        return Err(Refusal::Length);
     }
-    if 9 < count {
-        return Judged::Refused(4);
-    }
-    let letter = char_at(cs, count, 0);
+    let letter = char_at(line, 0);
     if !is_letter(letter) {
-        return Judged::Refused(5);
+        return Err(Refusal::Letter);
     }
-    if !is_switch(char_at(cs, count, 1)) {
-        return Judged::Refused(6);
+    if !is_switch(char_at(line, 1)) {
+        return Err(Refusal::Switch);
     }
-    if !is_ident(char_at(cs, count, 8)) {
-        return Judged::Refused(7);
+    if !is_ident(char_at(line, 8)) {
+        return Err(Refusal::Digits);
     }
-    let number = read_digits(cs, count);
-    judge_number(letter, digit_count(count), number)
+    judge_number(letter, digit_count(line), read_digits(line))
 }

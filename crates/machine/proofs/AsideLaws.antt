@@ -1,5 +1,8 @@
 -- A half-received line aside: the machine without it is the one after another list of calls, that of all calls but the
 -- characters since the last 0D, for no tick reads or alters the line. Assumes nothing.
+use Rattle.line.specs.declared.Accepted.{Accepted}
+use Rattle.line.specs.declared.Refusal.{Refusal}
+use Rattle.std.proofs.Common.{None, Result, Ok, Err}
 use Prim.Native.Nat.{ℕ, ◌+◌, ◌-◌}
 use mathlib.Core.Bool.{Bool, true, false, cond, not, ◌&&◌}
 use mathlib.Core.List.{List, [], ◌∷◌, ◌++◌}
@@ -7,10 +10,7 @@ use mathlib.Core.Path.{◌≡◌, refl, sym, ap, ◌∙◌}
 use borrow.Author.Tests.{eqb-true}
 use lib.Dec.{ltb, leb, eqb}
 use Rattle.laws.proofs.Pick.{by_bool}
-use Rattle.line.specs.declared.Judged.{Judged}
-use Rattle.line.specs.declared.Judged.TheVariants.{Accepted, Refused}
-use Rattle.line.specs.Line.{silent_of, ident_of, judge_of}
-use Rattle.receiver.specs.declared.Heard.TheVariants.{Character}
+use Rattle.line.specs.Line.{silent_of, ident_of, judge_of, refusal_number}
 use Rattle.receiver.specs.Receiver.{Receipt, heard_line, receive}
 use Rattle.machine.specs.State.{Waiting, none, start, Machine, with_move, with_flags, with_line}
 use Rattle.machine.specs.Shares.{whole, gone}
@@ -146,11 +146,11 @@ end_clear m d e =
     ap (λ (t : Bool). (answered m 13 (cond t untaken (outcome_of m (heard_line m.line)))).machine.line) e
     ∙ clear (judge_of m.line)
   where
-    clear : (j : Judged) → (answered m 13 (decided m (silent_of m.line) (ident_of m.line) j)).machine.line ≡ []
-    clear (Refused n) = (turned_unaltered (with_line m []) n).line
-    clear (Accepted c digits) =
-        by_bool (λ (o : Outcome). (answered m 13 o).machine.line ≡ []) (eqb (number m c) 0) _ _
-        (λ _. (does_unaltered (with_line m []) c).line) (λ _. (turned_unaltered (with_line m []) (number m c)).line)
+    clear : (j : Result Accepted Refusal) → (answered m 13 (decided m (silent_of m.line) (ident_of m.line) j)).machine.line ≡ []
+    clear (Err r) = (turned_unaltered (with_line m []) (refusal_number r)).line
+    clear (Ok a) =
+        by_bool (λ (o : Outcome). (answered m 13 o).machine.line ≡ []) (eqb (number m a.command) 0) _ _
+        (λ _. (does_unaltered (with_line m []) a.command).line) (λ _. (turned_unaltered (with_line m []) (number m a.command)).line)
 
 -- Any other byte that is taken is a character.
 pub joins : (m : Machine) (b : ℕ) (d : List ℕ) → is_short d ≡ false → eqb b 13 ≡ false
@@ -160,7 +160,7 @@ joins m b d e q =
     ∙ (ap (λ (x : Receipt). (answered m b (outcome_of m x.heard)).machine) character
     ∙ ap (λ (x : Receipt). with_line m x.line) character)
   where
-    character : receive m.line b ≡ record { line = m.line ++ (b ∷ []); heard = Character }
+    character : receive m.line b ≡ record { line = m.line ++ (b ∷ []); heard = None }
     character = rw q
 
 pub untakes : (m : Machine) (b : ℕ) (d : List ℕ) → is_short d ≡ true → (byte_step m b d).machine ≡ m

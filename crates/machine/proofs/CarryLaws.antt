@@ -1,5 +1,6 @@
 -- Paper 02, 6/14, for every list of calls: the number that a line Q C meets, and what an accepted one does. Assumes
 -- nothing.
+use Rattle.std.proofs.Common.{Option}
 use Prim.Native.Nat.{ℕ, ◌-◌, ◌<◌}
 use mathlib.Core.Bool.{Bool, true, false, cond, not, ◌&&◌}
 use mathlib.Core.List.{List, [], ◌∷◌}
@@ -8,7 +9,6 @@ use lib.IntN.{◌+ℤ◌}
 use Rattle.laws.specs.Axes.{some, directed}
 use Rattle.laws.specs.Bits.{bit}
 use Rattle.laws.proofs.Some.{some_same, some_none}
-use Rattle.digits.specs.declared.Ident.{Ident}
 use Rattle.line.specs.declared.command.Command.TheVariants as C
 use Rattle.inputs.specs.Inputs.{blocked_at}
 use Rattle.machine.specs.State.{Move, none, Machine, mark, with_move, with_watch, with_flags, with_pause}
@@ -89,7 +89,7 @@ module _ (s : ℕ) (h : List Call) where
 -- ---- What an accepted one does
 
 -- Bits 3 and 6 are cleared.
-module _ (m : Machine) (b digits : ℕ) (silent : Bool) (ident : Ident) where
+module _ (m : Machine) (b digits : ℕ) (silent : Bool) (ident : Option ℕ) where
   abbrev taken : Machine
   taken = (answered m b (accepted (C.Order 12) digits silent ident)).machine
 

@@ -1,4 +1,5 @@
 -- A byte that ends a line Q C: its number, its reply and the machine that it leaves. Assumes nothing.
+use Rattle.std.proofs.Common.{Option, None}
 use Prim.Native.Nat.{ℕ}
 use mathlib.Core.Bool.{Bool, true, false, cond, not, ◌&&◌, ◌||◌, or-false}
 use mathlib.Core.List.{List, []}
@@ -7,8 +8,6 @@ use borrow.Author.Tests.{eq-eqb, ne_eqb}
 use lib.Dec.{ltb, leb, eqb}
 use Rattle.laws.specs.Axes.{some}
 use Rattle.laws.proofs.Pick.{by_bool, by_eq}
-use Rattle.digits.specs.declared.Ident.{Ident}
-use Rattle.digits.specs.declared.Ident.TheVariants.{Absent}
 use Rattle.line.specs.declared.command.Command.TheVariants as C
 use Rattle.reply.specs.Reply.{letter_u, letter_s, block_for, reply_of, refusal_of}
 use Rattle.machine.specs.State.{Machine, mark, with_watch, with_flags}
@@ -58,7 +57,7 @@ module _ (m : Machine) where
       (late 12 refl refl) (late 13 refl refl) (late 16 refl refl) (late 17 refl refl) (λ q. absurd (q refl))
 
 -- What comes of the byte, by whether a number turns the line away.
-abbrev carries : Machine → Bool → Ident → ℕ → Bool → Outcome
+abbrev carries : Machine → Bool → Option ℕ → ℕ → Bool → Outcome
 carries m silent ident digits taken =
     cond taken (accepted (C.Order 12) digits silent ident) (refused (number m (C.Order 12)) silent ident)
 
@@ -85,7 +84,7 @@ module _ (m : Machine) (b : ℕ) (buffer : List ℕ) (l : CarryLine m b buffer) 
       (block_for m.switch letter_u (number m (C.Order 12)) l.ident)))
       (λ (e : number m (C.Order 12) ≡ 0 → ⊥). λ i. cond l.silent [] (cond (sym (ne_eqb _ 0 e) i)
       (block_for m.switch letter_s l.digits l.ident)
-      (block_for m.switch letter_u (number m (C.Order 12)) (cond (named m e i) Absent l.ident))))
+      (block_for m.switch letter_u (number m (C.Order 12)) (cond (named m e i) None l.ident))))
 
   by : {t : Bool} → eqb (number m (C.Order 12)) 0 ≡ t
       → carries m l.silent l.ident l.digits (eqb (number m (C.Order 12)) 0)

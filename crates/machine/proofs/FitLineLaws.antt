@@ -1,4 +1,7 @@
 -- A received byte keeps a machine in range. Assumes nothing.
+use Rattle.line.specs.declared.Accepted.{Accepted}
+use Rattle.line.specs.declared.Refusal.{Refusal}
+use Rattle.std.proofs.Common.{Option, Result, Ok, Err}
 use Prim.Native.Nat.{ℕ, ◌-◌, ◌≤◌, ◌<◌}
 use mathlib.Core.Bool.{Bool, true, false, cond, ◌&&◌}
 use mathlib.Core.List.{List}
@@ -9,12 +12,9 @@ use Rattle.laws.proofs.Tests.{true_false, and_true}
 use lib.Dec.{ltb, leb, eqb}
 use lib.ListN.{length}
 use Rattle.laws.proofs.Pick.{by_bool, by_eq}
-use Rattle.digits.specs.declared.Ident.{Ident}
 use Rattle.line.specs.declared.command.Command.{Command}
 use Rattle.line.specs.declared.command.Command.TheVariants as C
-use Rattle.line.specs.declared.Judged.{Judged}
-use Rattle.line.specs.declared.Judged.TheVariants.{Accepted, Refused}
-use Rattle.line.specs.Line.{silent_of, ident_of, judge_of}
+use Rattle.line.specs.Line.{silent_of, ident_of, judge_of, refusal_number}
 use Rattle.line.specs.Ranges.{top_speed, top_slope, setting_fits}
 use Rattle.line.specs.Fits.{CommandFits, JudgedFits}
 use Rattle.line.proofs.Ranges.{within, axis, distance, by_code}
@@ -134,7 +134,7 @@ fits_does m b (C.Order code) f h e = fits_order m b code f e
 fits_does m b (C.Outputs v) f h e = fits_same m _ f refl refl refl refl refl
 fits_does m b (C.Read r) f h e = fits_same m _ f refl refl refl refl refl
 
-fits_refused : (m : Machine) (b n : ℕ) (silent : Bool) (ident : Ident) → Fits m
+fits_refused : (m : Machine) (b n : ℕ) (silent : Bool) (ident : Option ℕ) → Fits m
     → Fits (answered m b (refused n silent ident)).machine
 fits_refused m b n silent ident f = when (leb 10 n)
   where
@@ -142,14 +142,14 @@ fits_refused m b n silent ident f = when (leb 10 n)
     when true = fits_same m _ f refl refl refl refl refl
     when false = fits_same m _ f refl refl refl refl refl
 
-fits_decided : (m : Machine) (b : ℕ) (silent : Bool) (ident : Ident) (j : Judged) → Fits m → JudgedFits j
+fits_decided : (m : Machine) (b : ℕ) (silent : Bool) (ident : Option ℕ) (j : Result Accepted Refusal) → Fits m → JudgedFits j
     → Fits (answered m b (decided m silent ident j)).machine
-fits_decided m b silent ident (Refused n) f h = fits_refused m b n silent ident f
-fits_decided m b silent ident (Accepted c digits) f h =
-    by_bool (λ (o : Outcome). Fits (answered m b o).machine) (eqb (number m c) 0) _ _
-    (λ e. fits_same (with_watch (does (heard_by m b) c) 0) _ (fits_does m b c f h.command (eqb-true (number m c) 0 e))
+fits_decided m b silent ident (Err r) f h = fits_refused m b (refusal_number r) silent ident f
+fits_decided m b silent ident (Ok a) f h =
+    by_bool (λ (o : Outcome). Fits (answered m b o).machine) (eqb (number m a.command) 0) _ _
+    (λ e. fits_same (with_watch (does (heard_by m b) a.command) 0) _ (fits_does m b a.command f h.command (eqb-true (number m a.command) 0 e))
     refl refl refl refl refl)
-    (λ e. fits_refused m b (number m c) silent ident f)
+    (λ e. fits_refused m b (number m a.command) silent ident f)
 
 pub fits_byte : (m : Machine) (b : ℕ) (buffer : List ℕ) → Fits m → Fits (answered m b (outcome m b buffer)).machine
 fits_byte m b buffer f =

@@ -1,5 +1,6 @@
 -- Replies return the very identification of their lines, for every list of calls (specs/Identified.antt). Assumes
 -- nothing.
+use Rattle.std.proofs.Common.{Option, None, Some}
 use Prim.Native.Nat.{ℕ, ◌<◌}
 use mathlib.Core.Bool.{Bool, true, false, cond, false≢true}
 use mathlib.Core.List.{List, [], ◌∷◌, ◌++◌}
@@ -9,8 +10,6 @@ use borrow.Author.Tests.{le-leb, lt-leb, eq-eqb, ne_eqb, eqb-true}
 use lib.Dec.{leb, eqb}
 use lib.ListN.{length}
 use Rattle.laws.proofs.Pick.{by_bool, by_lt}
-use Rattle.digits.specs.declared.Ident.{Ident}
-use Rattle.digits.specs.declared.Ident.TheVariants.{Absent, Given}
 use Rattle.block.specs.Block.{Blocks}
 use Rattle.block.proofs.Named.{bears}
 use Rattle.line.specs.declared.command.Command.{Command}
@@ -67,27 +66,27 @@ received_is s (byte b d ∷ h) =
 
 -- ---- The blocks of an answer
 
-silent_blocks : (switch : ℕ) (ident : Ident) (silent : Bool) (reply : List ℕ) → Blocks switch ident reply
+silent_blocks : (switch : ℕ) (ident : Option ℕ) (silent : Bool) (reply : List ℕ) → Blocks switch ident reply
     → Blocks switch ident (unless_silent silent reply)
 silent_blocks switch ident true reply b = no_blocks switch ident
 silent_blocks switch ident false reply b = b
 
 -- A turned-away line has it from 8 on.
-refusal_returned : (cs : List ℕ) (n : ℕ) → 0 < n → refusal_ident n (ident_of cs) ≡ cond (is_returned n) (ident_of cs) Absent
+refusal_returned : (cs : List ℕ) (n : ℕ) → 0 < n → refusal_ident n (ident_of cs) ≡ cond (is_returned n) (ident_of cs) None
 refusal_returned cs n h =
     let e : eqb n 0 ≡ false = ne_eqb n 0 (λ (q : n ≡ 0). absurd (omega (arith, h, q))) in
-    rw e (by_lt (λ (x : Ident). x ≡ cond (leb 8 n) (ident_of cs) Absent) n 8 Absent (ident_of cs)
+    rw e (by_lt (λ (x : Option ℕ). x ≡ cond (leb 8 n) (ident_of cs) None) n 8 None (ident_of cs)
     (λ q. rw (lt-leb 8 n q)) (λ q. rw (le-leb 8 n q)))
 
 -- What a byte of the machine m answers, its outcome being o.
 abbrev Answers : Machine → ℕ → Outcome → Type 0
 Answers m b o =
-    Blocks m.switch (cond (is_returned (answered m b o).number) (ident_of m.line) Absent) (answered m b o).reply
+    Blocks m.switch (cond (is_returned (answered m b o).number) (ident_of m.line) None) (answered m b o).reply
 
 refused_blocks : (m : Machine) (b n : ℕ) → 0 < n → Answers m b (refused n (silent_of m.line) (ident_of m.line))
 refused_blocks m b n h =
     let ident = ident_of m.line in
-    subst (λ (x : Ident). Blocks m.switch x (answered m b (refused n (silent_of m.line) ident)).reply)
+    subst (λ (x : Option ℕ). Blocks m.switch x (answered m b (refused n (silent_of m.line) ident)).reply)
     (refusal_returned m.line n h)
     (silent_blocks m.switch (refusal_ident n ident) (silent_of m.line) _ (refusal_blocks m.switch n ident))
 
@@ -129,7 +128,7 @@ block_of : (s w : ℕ) (l : Latest) (cs : List ℕ) → Named l cs → Blocks (s
 block_of s w no_line cs e = no_blocks _ _
 block_of s w (w_line true ident) cs e = no_blocks _ _
 block_of s w (w_line false ident) cs e =
-    subst (λ (x : Ident). Blocks (switch_of s) x (block_to s (w_line false ident) w)) e
+    subst (λ (x : Option ℕ). Blocks (switch_of s) x (block_to s (w_line false ident) w)) e
     (one_block (switch_of s) letter_r w ident)
 
 tick_blocks : (s : ℕ) (h : List Call) (w : ℕ) (d : List ℕ)
@@ -143,23 +142,23 @@ tick_blocks s h w d =
 -- ---- Every list
 
 -- Blocks with the ninth of nine characters bear it.
-borne : (switch : ℕ) (cs : List ℕ) (with : Bool) (bytes : List ℕ) → Blocks switch (cond with (ident_of cs) Absent) bytes
+borne : (switch : ℕ) (cs : List ℕ) (with : Bool) (bytes : List ℕ) → Blocks switch (cond with (ident_of cs) None) bytes
     → with ≡ true → length cs ≡ 9 → Bears (char_at cs 8) bytes
 borne switch cs true bytes b q e =
-    let x : ident_of cs ≡ Given (char_at cs 8) = rw (eq-eqb (length cs) 9 e) in
-    bears switch (char_at cs 8) bytes (subst (λ (y : Ident). Blocks switch y bytes) x b)
+    let x : ident_of cs ≡ Some (char_at cs 8) = rw (eq-eqb (length cs) 9 e) in
+    bears switch (char_at cs 8) bytes (subst (λ (y : Option ℕ). Blocks switch y bytes) x b)
 borne switch cs false bytes b q e = absurd (false≢true q)
 
 -- With another number of characters there is none to bear.
 unborne : (switch : ℕ) (cs : List ℕ) (with : Bool) (bytes : List ℕ)
-    → Blocks switch (cond with (ident_of cs) Absent) bytes → (length cs ≡ 9 → ⊥) → Blocks switch Absent bytes
+    → Blocks switch (cond with (ident_of cs) None) bytes → (length cs ≡ 9 → ⊥) → Blocks switch None bytes
 unborne switch cs true bytes b n =
-    let x : ident_of cs ≡ Absent = rw (ne_eqb (length cs) 9 n) in
-    subst (λ (y : Ident). Blocks switch y bytes) x b
+    let x : ident_of cs ≡ None = rw (ne_eqb (length cs) 9 n) in
+    subst (λ (y : Option ℕ). Blocks switch y bytes) x b
 unborne switch cs false bytes b n = b
 
 returned : (switch : ℕ) (cs : List ℕ) (with : Bool) (bytes : List ℕ)
-    → Blocks switch (cond with (ident_of cs) Absent) bytes → Returned switch cs with bytes
+    → Blocks switch (cond with (ident_of cs) None) bytes → Returned switch cs with bytes
 returned switch cs with bytes b =
     record { blocks = b; ninth = borne switch cs with bytes b; bare = unborne switch cs with bytes b }
 
@@ -169,7 +168,7 @@ returns s h = record {
       ∙ ap (λ (l : List ℕ). outcome_of m (heard_line l)) (received_is s h);
   reply = λ b d. returned (switch_of s) (received h) (is_returned (byte_step m b d).number) (byte_step m b d).reply
       (transport (λ i. Blocks ((tied s h).switch i)
-      (cond (is_returned (byte_step m b d).number) (ident_of (received_is s h i)) Absent) (byte_step m b d).reply)
+      (cond (is_returned (byte_step m b d).number) (ident_of (received_is s h i)) None) (byte_step m b d).reply)
       (byte_blocks m b d));
   block = λ w d. returned (switch_of s) (latest_w s h) true (tick_step m w d).reply (tick_blocks s h w d);
 }

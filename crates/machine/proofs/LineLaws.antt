@@ -1,4 +1,5 @@
 -- What a received byte does to the latest move, the next one and the positions. Assumes nothing.
+use Rattle.std.proofs.Common.{Option}
 use Prim.Native.Nat.{ℕ}
 use mathlib.Core.Bool.{Bool, true, false, cond, ◌&&◌}
 use mathlib.Core.List.{List}
@@ -7,7 +8,6 @@ use native.Mathlib.Omega.{arith}
 use lib.Dec.{leb, eqb}
 use lib.IntN.{pos}
 use Rattle.laws.proofs.Tests.{and_true}
-use Rattle.digits.specs.declared.Ident.{Ident}
 use Rattle.line.specs.declared.command.Command.{Command}
 use Rattle.line.specs.declared.command.Command.TheVariants as C
 use Rattle.line.proofs.Ranges.{by_code}
@@ -115,7 +115,7 @@ Byte m b o =
     Called m (role_by o) (start_by m.pause (role_by o)) (stop_by m (role_by o)) false (λ k. pos 0)
     (answered m b o).machine
 
-called_refused : (m : Machine) (b n : ℕ) (silent : Bool) (ident : Ident) → Good m.move → Byte m b
+called_refused : (m : Machine) (b n : ℕ) (silent : Bool) (ident : Option ℕ) → Good m.move → Byte m b
     (refused n silent ident)
 called_refused m b n silent ident g = when (leb 10 n)
   where

@@ -1,11 +1,11 @@
 -- What a received byte does to the dwell and the stored start, and to the dwell set. Assumes nothing.
+use Rattle.std.proofs.Common.{Option}
 use Prim.Native.Nat.{ℕ}
 use mathlib.Core.Bool.{Bool, true, false, cond, ◌||◌}
 use mathlib.Core.List.{List}
 use mathlib.Core.Path.{◌≡◌, refl}
 use lib.Dec.{leb, eqb}
 use Rattle.laws.proofs.Pick.{by_bool}
-use Rattle.digits.specs.declared.Ident.{Ident}
 use Rattle.line.specs.declared.command.Command.{Command}
 use Rattle.line.specs.declared.command.Command.TheVariants as C
 use Rattle.line.proofs.Ranges.{by_code}
@@ -80,7 +80,7 @@ pub record Byte (m : Machine) (b : ℕ) (o : Outcome) : Type 0 where
       ≡ pause_by m.pause (role_by o)
   pub dwell : (answered m b o).machine.settings.dwell ≡ dwell_by (role_by o) m.settings.dwell
 
-refused_pause : (m : Machine) (b n : ℕ) (silent : Bool) (ident : Ident) → Byte m b (refused n silent ident)
+refused_pause : (m : Machine) (b n : ℕ) (silent : Bool) (ident : Option ℕ) → Byte m b (refused n silent ident)
 refused_pause m b n silent ident = record {
   pause = by_bool (λ (a : Machine). a.pause ≡ m.pause) (leb 10 n) _ _ (λ e. refl) (λ e. refl);
   dwell = by_bool (λ (a : Machine). a.settings.dwell ≡ m.settings.dwell) (leb 10 n) _ _ (λ e. refl) (λ e. refl);

@@ -1,12 +1,12 @@
 -- What a call does to the switch, the inputs, the general outputs and what is kept of a W line until its block. Assumes
 -- nothing.
+use Rattle.std.proofs.Common.{Option}
 use Prim.Native.Nat.{ℕ, ◌+◌, ◌-◌}
 use mathlib.Core.Bool.{Bool, true, false, cond, not, ◌&&◌}
 use mathlib.Core.Path.{◌≡◌, refl, sym, subst, ◌∙◌}
 use native.Mathlib.Omega.{arith}
 use lib.Dec.{ltb, leb, eqb}
 use Rattle.laws.proofs.Pick.{by_bool}
-use Rattle.digits.specs.declared.Ident.{Ident}
 use Rattle.line.specs.declared.command.Command.{Command}
 use Rattle.line.specs.declared.command.Command.TheVariants as C
 use Rattle.line.specs.Codes.{is_w}
@@ -126,7 +126,7 @@ pub record Byte (m : Machine) (b : ℕ) (l : Latest) (n : ℕ) (o : Outcome) : T
   pub waits : Waits (answered m b o).machine.settle (latest_by o l) (cond (ends_w o) 0 n)
 
 pub accepted_waits : (m : Machine) (b : ℕ) (l : Latest) (n : ℕ) → Waits m.settle l n
-    → (c : Command) (digits : ℕ) (silent : Bool) (ident : Ident) → Byte m b l n (accepted c digits silent ident)
+    → (c : Command) (digits : ℕ) (silent : Bool) (ident : Option ℕ) → Byte m b l n (accepted c digits silent ident)
 accepted_waits m b l n e c digits silent ident =
     let k = does_kept (heard_by m b) c in
     record { switch = k.switch; inputs = k.inputs; outputs = k.outputs; waits = when (is_w c) silent }

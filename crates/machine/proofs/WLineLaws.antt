@@ -1,10 +1,10 @@
 -- An accepted W line answers no bytes and number 0, and no number from 11 on turns one away. Assumes nothing.
+use Rattle.std.proofs.Common.{Option}
 use Prim.Native.Nat.{ℕ}
 use mathlib.Core.Bool.{Bool, true, false, cond, ◌&&◌}
 use mathlib.Core.List.{List, []}
 use mathlib.Core.Path.{◌≡◌, refl, ap, ◌∙◌}
 use Rattle.laws.proofs.Tests.{true_false}
-use Rattle.digits.specs.declared.Ident.{Ident}
 use Rattle.line.specs.declared.command.Command.{Command}
 use Rattle.line.specs.declared.command.Command.TheVariants as C
 use Rattle.line.specs.declared.command.Reading.{Reading}
@@ -24,7 +24,7 @@ none : (b : Bool) → cond {A = List ℕ} b [] [] ≡ []
 none true = refl
 none false = refl
 
-query_silent : (m : Machine) (r : Reading) (digits : ℕ) (ident : Ident) → is_w (C.Read r) ≡ true
+query_silent : (m : Machine) (r : Reading) (digits : ℕ) (ident : Option ℕ) → is_w (C.Read r) ≡ true
     → reply_to m (C.Read r) digits ident ≡ []
 unfolding reply_of
 query_silent m (R.Travel k) digits ident e = true_false false e refl
@@ -33,7 +33,7 @@ query_silent m R.Status digits ident e = true_false false e refl
 query_silent m R.Everything digits ident e = true_false false e refl
 query_silent m R.Inputs digits ident e = refl
 
-reply_none : (m : Machine) (c : Command) (digits : ℕ) (ident : Ident) → is_w c ≡ true → reply_to m c digits ident ≡ []
+reply_none : (m : Machine) (c : Command) (digits : ℕ) (ident : Option ℕ) → is_w c ≡ true → reply_to m c digits ident ≡ []
 unfolding reply_of
 reply_none m (C.Distance k s d) digits ident e = true_false false e refl
 reply_none m (C.Set code v) digits ident e = true_false false e refl

@@ -1,4 +1,5 @@
 -- What a call does to the watch setting and the watch count. Assumes nothing.
+use Rattle.std.proofs.Common.{Option}
 use Prim.Native.Nat.{ℕ, ◌+◌, min}
 use mathlib.Core.Bool.{Bool, true, false, cond, not, ◌&&◌, ◌||◌, or-true}
 use mathlib.Core.List.{List}
@@ -6,7 +7,6 @@ use mathlib.Core.Path.{◌≡◌, refl, ap, ◌∙◌}
 use native.Mathlib.Omega.{arith}
 use lib.Dec.{ltb, leb, eqb}
 use Rattle.laws.proofs.Pick.{by_bool}
-use Rattle.digits.specs.declared.Ident.{Ident}
 use Rattle.line.specs.declared.command.Command.{Command}
 use Rattle.line.specs.declared.command.Command.TheVariants as C
 use Rattle.line.proofs.Ranges.{by_code}
@@ -115,7 +115,7 @@ record Byte (m : Machine) (b : ℕ) (o : Outcome) : Type 0 where
   setting : (answered m b o).machine.settings.watch ≡ watch_by o m.settings.watch
   count : (answered m b o).machine.watch ≡ cond (zeroes o) 0 m.watch
 
-refused_watch : (m : Machine) (b n : ℕ) (silent : Bool) (ident : Ident) → Byte m b (refused n silent ident)
+refused_watch : (m : Machine) (b n : ℕ) (silent : Bool) (ident : Option ℕ) → Byte m b (refused n silent ident)
 refused_watch m b n silent ident = record {
   setting = by_bool (λ (a : Machine). a.settings.watch ≡ m.settings.watch) (leb 10 n) _ _ (λ e. refl) (λ e. refl);
   count = when (leb 10 n);

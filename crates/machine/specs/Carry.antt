@@ -1,13 +1,11 @@
 -- Paper 02, 6/14, of every list of calls: which lists leave a move to carry on, which number a line Q C meets after a
 -- list, and what an accepted one does, read off the list as in List.antt.
-use Rattle.std.specs.Prelude.{ℕ, ◌-◌, Bool, true, false, cond, not, ◌&&◌, List, [], ◌∷◌, ◌≡◌, ltb, eqb, ℤ, ◌+ℤ◌}
+use Rattle.line.specs.Line.{accepting}
+use Rattle.std.specs.Prelude.{ℕ, ◌-◌, Bool, true, false, cond, not, ◌&&◌, List, [], ◌∷◌, ◌≡◌, ltb, eqb, ℤ, ◌+ℤ◌, Option}
 use Rattle.laws.specs.Axes.{some, directed}
 use Rattle.laws.specs.Bits.{bit}
-use Rattle.digits.specs.declared.Ident.{Ident}
 use Rattle.line.specs.declared.command.Command.TheVariants as C
-use Rattle.line.specs.declared.Judged.TheVariants.{Accepted}
-use Rattle.receiver.specs.declared.Heard.TheVariants.{Line}
-use Rattle.receiver.specs.Receiver.{receive}
+use Rattle.receiver.specs.Receiver.{receive, line_heard}
 use Rattle.reply.specs.Reply.{letter_u, letter_s, block_for}
 use Rattle.machine.specs.State.{Plan, none, Machine, mark, with_move, with_flags, with_pause, with_watch}
 use Rattle.machine.specs.Stops.{blocked, sensor_active, status}
@@ -70,10 +68,10 @@ carry_number_after s h = carry_number_by (goes_on s h) (stopped_short s h) (stat
 -- bytes or more.
 pub record CarryLine (m : Machine) (b : ℕ) (buffer : List ℕ) : Type 0 where
   pub silent : Bool
-  pub ident : Ident
+  pub ident : Option ℕ
   pub digits : ℕ
   pub lent : is_short buffer ≡ false
-  pub heard : (receive m.line b).heard ≡ Line silent ident (Accepted (C.Order 12) digits)
+  pub heard : (receive m.line b).heard ≡ line_heard silent ident (accepting (C.Order 12) digits)
 
 -- What an accepted line Q C does after the list; the byte b ends it, the call x.
 pub record Onward (s : ℕ) (h : List Call) (b : ℕ) (x : Call) : Type 0 where
@@ -103,7 +101,7 @@ pub record Onward (s : ℕ) (h : List Call) (b : ℕ) (x : Call) : Type 0 where
       (mark (mark (state s h).flags 3 false) 6 false)) (record { left = 0; waiting = none })
 
 -- The reply to a line Q C: S echoing its digits, or U with its number, each with the line's identification.
-abbrev pub carry_reply : ℕ → ℕ → ℕ → Ident → List ℕ
+abbrev pub carry_reply : ℕ → ℕ → ℕ → Option ℕ → List ℕ
 carry_reply switch n digits ident =
     cond (eqb n 0) (block_for switch letter_s digits ident) (block_for switch letter_u n ident)
 

@@ -1,6 +1,5 @@
 -- What an accepted line does, and which numbers from 11 on turn a line away (paper 01, "Lines", "Turned away").
-use Rattle.std.specs.Prelude.{ℕ, Bool, true, false, cond, ◌&&◌, ltb, leb, eqb, pos}
-use Rattle.digits.specs.declared.Ident.{Ident}
+use Rattle.std.specs.Prelude.{ℕ, Bool, true, false, cond, ◌&&◌, ltb, leb, eqb, pos, Option}
 use Rattle.line.specs.declared.command.Command.{Command}
 use Rattle.line.specs.declared.command.Command.TheVariants as C
 use Rattle.line.specs.Codes.{is_w}
@@ -109,10 +108,10 @@ does m (C.Read r) = m
 
 -- Paper 02, 3/14: the block of an accepted W line comes in the answer of the 2,500th accepted tick after it. It takes
 -- the earlier one's place; a silent one does so too and gives none.
-abbrev pub settle_by : Command → Bool → Ident → Settle → Settle
+abbrev pub settle_by : Command → Bool → Option ℕ → Settle → Settle
 settle_by c silent ident old = cond (is_w c) (record { left = cond silent 0 2500; ident = ident }) old
 
-abbrev pub awaits : Machine → Command → Bool → Ident → Machine
+abbrev pub awaits : Machine → Command → Bool → Option ℕ → Machine
 awaits m c silent ident = with_settle m (settle_by c silent ident m.settle)
 
 -- Lines turned away by 10 to 17, or by a number that a later request adds (26), zero the watch count, as accepted ones

@@ -1,9 +1,8 @@
 -- Paper 02, 7/14, of every list of calls: the characters of a line, and that each block of its reply returns its very
 -- identification, the block that a tick answers to a W line too. All is read off the list as in List.antt. Which lines
 -- are accepted is what the machine of paper 01 does.
-use Rattle.std.specs.Prelude.{ℕ, ◌+◌, ◌*◌, ◌<◌, Bool, true, false, cond, ◌||◌, List, [], ◌∷◌, ◌++◌, ◌≡◌, leb, eqb, length, get_or}
+use Rattle.std.specs.Prelude.{ℕ, ◌+◌, ◌*◌, ◌<◌, Bool, true, false, cond, ◌||◌, List, [], ◌∷◌, ◌++◌, ◌≡◌, leb, eqb, length, get_or, None}
 use Rattle.digits.specs.Digits.{end_byte}
-use Rattle.digits.specs.declared.Ident.TheVariants.{Absent}
 use Rattle.block.specs.Block.{Blocks}
 use Rattle.line.specs.Line.{char_at, ident_of}
 use Rattle.receiver.specs.Receiver.{heard_line}
@@ -36,11 +35,11 @@ Bears c bytes = (i : ℕ) → i * 10 + 8 < length bytes → get_or bytes (i * 10
 -- What is answered to a line of the characters cs, with its identification or without.
 pub record Returned (switch : ℕ) (cs : List ℕ) (with : Bool) (bytes : List ℕ) : Type 0 where
   -- blocks one behind the other, or none, and all have the line's identification or all have none
-  pub blocks : Blocks switch (cond with (ident_of cs) Absent) bytes
+  pub blocks : Blocks switch (cond with (ident_of cs) None) bytes
   -- it is the very ninth of nine characters, and stands in each block
   pub ninth : with ≡ true → length cs ≡ 9 → Bears (char_at cs 8) bytes
   -- a line of fewer characters, or of more, has none, and neither has its answer
-  pub bare : (length cs ≡ 9 → ⊥) → Blocks switch Absent bytes
+  pub bare : (length cs ≡ 9 → ⊥) → Blocks switch None bytes
 
 pub record ReturnsAfter (s : ℕ) (h : List Call) : Type 0 where
   -- a 0D that is taken ends the line of these characters

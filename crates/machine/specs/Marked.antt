@@ -4,8 +4,7 @@ use Rattle.std.specs.Prelude.{ℕ, zero, suc, Bool, true, cond, not, List, [], �
 use Prim.Native.String.{String}
 use Rattle.laws.specs.Axes.{some, each}
 use Rattle.line.specs.declared.command.Command.TheVariants as C
-use Rattle.line.specs.declared.Judged.TheVariants.{Accepted}
-use Rattle.line.specs.Line.{judge_of}
+use Rattle.line.specs.Line.{judge_of, accepting}
 use Rattle.machine.specs.State.{Machine}
 use Rattle.machine.specs.Replies.{travel_of, position_of}
 use Rattle.machine.specs.Steps.{power_on, ByteAnswer, byte_step, TickAnswer, tick_step}
@@ -84,13 +83,13 @@ pub record Marked : Type 0 where
   pub steep_first : first_pulse 156 steep ≡ 156
   pub gentle_first : first_pulse 2500 gentle ≡ 2500
   -- speed F4240 taken, F4241 is 10
-  pub speed_read : judge_of (chars "P08F4240") ≡ Accepted (C.Set 8 1000000) 0x8F4240
+  pub speed_read : judge_of (chars "P08F4240") ≡ accepting (C.Set 8 1000000) 0x8F4240
   pub speed_taken : (told (power_on 0) "P08F4240").machine.settings.speed ≡ 1000000
   pub speed_over : (told (power_on 0) "P08F4241").number ≡ 10
   -- position -1 reads FFFFF (negsuc 0 is -1)
   pub position : position_of (ticked 1000 printed) 1 ≡ negsuc 0
   pub position_read : (told (ticked 1000 printed) "q01").reply ≡ chars "s01FFFFF\r"
   -- P0281388 is axis 2, minus 5,000
-  pub distance_read : judge_of (chars "P0281388") ≡ Accepted (C.Distance 2 true 5000) 0x281388
+  pub distance_read : judge_of (chars "P0281388") ≡ accepting (C.Distance 2 true 5000) 0x281388
   pub distance : (told (power_on 0) "P0281388").machine.next.distance 2 ≡ 5000
   pub minus : (told (power_on 0) "P0281388").machine.next.minus 2 ≡ true

@@ -1,7 +1,6 @@
 -- Power-on: V 10,000, a 16, all else 0; watch 1 (axes) by paper 02, 2/14. 1: a switch over 15 or equal to 12 gives
 -- switch 0 with this number.
-use Rattle.std.specs.Prelude.{ℕ, Bool, false, cond, ◌||◌, [], ltb, eqb, pos}
-use Rattle.digits.specs.declared.Ident.TheVariants.{Absent}
+use Rattle.std.specs.Prelude.{ℕ, Bool, false, cond, ◌||◌, [], ltb, eqb, pos, None}
 use Rattle.machine.specs.State.{Plan, none, Machine, move_of}
 
 abbrev pub bad_switch : ℕ → Bool
@@ -22,7 +21,7 @@ power_on switch = record {
   watch = 0;
   flags = record { wrong_master = false; stopped = false; emergency = false; sensed = false };
   pause = record { left = 0; waiting = none };
-  settle = record { left = 0; ident = Absent };
+  settle = record { left = 0; ident = None };
   line = [];
 }
 

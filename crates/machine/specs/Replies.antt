@@ -1,6 +1,5 @@
 -- The figures that replies are made from (paper 01, "Lines", Replies).
-use Rattle.std.specs.Prelude.{ℕ, Bool, cond, List, [], ℤ}
-use Rattle.digits.specs.declared.Ident.{Ident}
+use Rattle.std.specs.Prelude.{ℕ, Bool, cond, List, [], ℤ, Option}
 use Rattle.line.specs.declared.command.Command.{Command}
 use Rattle.reply.specs.Reply.{Told, travel_digits, twenty, reply_of, refusal_of, inputs_of}
 use Rattle.machine.specs.State.{Machine}
@@ -24,10 +23,10 @@ told_of m = record {
   inputs = m.inputs;
 }
 
-abbrev pub reply_to : Machine → Command → ℕ → Ident → List ℕ
+abbrev pub reply_to : Machine → Command → ℕ → Option ℕ → List ℕ
 reply_to m c digits ident = reply_of (told_of m) c digits ident
 
-abbrev pub refusal : Machine → ℕ → Ident → List ℕ
+abbrev pub refusal : Machine → ℕ → Option ℕ → List ℕ
 refusal m n ident = refusal_of m.switch n ident
 
 -- The block of the W line that waits, with the inputs w (paper 02, 3/14).

@@ -1,12 +1,11 @@
 -- Paper 02, 3/14, of every list of calls: which tick answers the block of a W line, and what the block says; the
 -- general outputs that the words show; and the inputs that q 8 tells. All is read off the list as in List.antt. Which
 -- lines are accepted is what the machine of paper 01 does.
-use Rattle.std.specs.Prelude.{ℕ, ◌+◌, Bool, true, false, cond, ◌&&◌, List, [], ◌∷◌, ◌≡◌, leb, eqb}
+use Rattle.line.specs.Line.{accepting}
+use Rattle.std.specs.Prelude.{ℕ, ◌+◌, Bool, true, false, cond, ◌&&◌, List, [], ◌∷◌, ◌≡◌, leb, eqb, Option}
 use Rattle.laws.specs.Bits.{bit, weight}
-use Rattle.digits.specs.declared.Ident.{Ident}
 use Rattle.line.specs.declared.command.Command.{Command}
 use Rattle.line.specs.declared.command.Command.TheVariants as C
-use Rattle.line.specs.declared.Judged.TheVariants.{Accepted}
 use Rattle.line.specs.Codes.{is_w}
 use Rattle.reply.specs.Reply.{letter_r, block_for}
 use Rattle.outputs.specs.Outputs.{general_of}
@@ -37,7 +36,7 @@ use Rattle.machine.specs.Watch.{last_watch, ticks_unheard}
 -- The latest accepted W line, query or not: whether it is silent, and its identification.
 pub data Latest : Type 0 where
   no_line : Latest
-  w_line : Bool → Ident → Latest
+  w_line : Bool → Option ℕ → Latest
 
 -- A byte that ends an accepted W line.
 abbrev pub ends_w : Outcome → Bool
@@ -156,8 +155,8 @@ pub record Settled (s : ℕ) (h : List Call) : Type 0 where
   pub answered : latest_block s h ≡ block_due s h
   pub ended : (b : ℕ) (buffer : List ℕ) → ends_w (outcome (state s h) b buffer) ≡ true → WEnded s h b buffer
   -- a W line that none of 4 to 10 turns away is accepted
-  pub accepts : (c : Command) (digits : ℕ) (silent : Bool) (ident : Ident) → is_w c ≡ true
-      → decided (state s h) silent ident (Accepted c digits) ≡ accepted c digits silent ident
+  pub accepts : (c : Command) (digits : ℕ) (silent : Bool) (ident : Option ℕ) → is_w c ≡ true
+      → decided (state s h) silent ident (accepting c digits) ≡ accepted c digits silent ident
   -- its outputs are set at once (a query sets none): the next tick shows them, whatever else it does
   pub words : (w : ℕ) (buffer : List ℕ) → tick_turned w buffer ≡ false
       → Shows s (tick w buffer ∷ h) (tick_step (state s h) w buffer).first (tick_step (state s h) w buffer).second

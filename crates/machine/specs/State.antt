@@ -1,7 +1,6 @@
 -- What the machine of paper 01 holds, in the paper's terms. Axes are numbers 0 to 4; what each axis has is a function
 -- of it.
-use Rattle.std.specs.Prelude.{ℕ, Bool, cond, List, eqb, ℤ}
-use Rattle.digits.specs.declared.Ident.{Ident}
+use Rattle.std.specs.Prelude.{ℕ, Bool, cond, List, eqb, ℤ, Option}
 
 -- What P 8 to C and Q D, E set: speed V in units of 0.25 Hz, slope a in units of 1.25 kHz/s, dwell in ms.
 pub record Settings : Type 0 where
@@ -46,7 +45,7 @@ pub record Pause : Type 0 where
 -- identification.
 pub record Settle : Type 0 where
   pub left : ℕ
-  pub ident : Ident
+  pub ident : Option ℕ
 
 -- Status bits 2, 3, 5 and 6: wrong master; stopped by order, limit or watch; emergency held; stopped by sensor.
 pub record Flags : Type 0 where

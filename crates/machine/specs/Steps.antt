@@ -1,13 +1,12 @@
 -- One call on the machine: a received byte with its lent buffer, a tick with its input word and its lent buffer.
 -- Power-on (Power.antt) is handed on.
-use Rattle.std.specs.Prelude.{ℕ, ◌-◌, Bool, true, false, cond, ◌||◌, List, [], ltb, eqb, ℤ, pos, length}
-use Rattle.digits.specs.declared.Ident.{Ident}
+use Rattle.line.specs.declared.Accepted.{Accepted}
+use Rattle.line.specs.declared.Refusal.{Refusal}
+use Rattle.receiver.specs.declared.Line.{Line}
+use Rattle.line.specs.Line.{refusal_number}
+use Rattle.std.specs.Prelude.{ℕ, ◌-◌, Bool, true, false, cond, ◌||◌, List, [], ltb, eqb, ℤ, pos, length, Option, Some, None, Result, Ok, Err}
 use Rattle.block.specs.Block.{over}
 use Rattle.line.specs.declared.command.Command.{Command}
-use Rattle.line.specs.declared.Judged.{Judged}
-use Rattle.line.specs.declared.Judged.TheVariants.{Accepted, Refused}
-use Rattle.receiver.specs.declared.Heard.{Heard}
-use Rattle.receiver.specs.declared.Heard.TheVariants.{Character, Line}
 use Rattle.receiver.specs.Receiver.{receive}
 use Rattle.machine.specs.State.{Waiting, none, start, Machine, with_line, with_watch, with_pause}
 pub use Rattle.machine.specs.Power.{bad_switch, plan₀, power_on, power_number}
@@ -28,18 +27,18 @@ pub data Outcome : Type 0 where
   -- a character of a line
   gathered : Outcome
   -- a line turned away: its number, whether it is silent, its identification
-  refused : ℕ → Bool → Ident → Outcome
+  refused : ℕ → Bool → Option ℕ → Outcome
   -- a line accepted: its command and six digits, whether it is silent, its identification
-  accepted : Command → ℕ → Bool → Ident → Outcome
+  accepted : Command → ℕ → Bool → Option ℕ → Outcome
 
-abbrev pub decided : Machine → Bool → Ident → Judged → Outcome
-decided m silent ident (Refused n) = refused n silent ident
-decided m silent ident (Accepted c digits) =
-    cond (eqb (number m c) 0) (accepted c digits silent ident) (refused (number m c) silent ident)
+abbrev pub decided : Machine → Bool → Option ℕ → Result Accepted Refusal → Outcome
+decided m silent ident (Err r) = refused (refusal_number r) silent ident
+decided m silent ident (Ok a) =
+    cond (eqb (number m a.command) 0) (accepted a.command a.digits silent ident) (refused (number m a.command) silent ident)
 
-abbrev pub outcome_of : Machine → Heard → Outcome
-outcome_of m Character = gathered
-outcome_of m (Line silent ident judged) = decided m silent ident judged
+abbrev pub outcome_of : Machine → Option Line → Outcome
+outcome_of m None = gathered
+outcome_of m (Some line) = decided m line.silent line.ident line.judged
 
 -- 2. A reply buffer under 120 bytes.
 abbrev pub is_short : List ℕ → Bool

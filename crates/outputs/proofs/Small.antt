@@ -2,15 +2,16 @@
 use Prim.Native.Nat.{ℕ, ◌*◌, ◌^◌, ◌≤◌}
 use mathlib.Core.Bool.{Bool, true, false, not}
 use mathlib.Core.List.{List}
-use mathlib.Core.Path.{◌≡◌, sym, subst}
+use mathlib.Core.Path.{◌≡◌}
 use native.Mathlib.Nat.{pow-le-pow_left}
 use native.Mathlib.Omega.{arith}
 use lib.Dec.{ltb, lit≤}
 use lib.IntN.{ℤ, pos}
+use Rattle.std.specs.Prelude.{sum, ◌<◌}
 use Rattle.laws.specs.Axes.{each, directed}
 use Rattle.laws.proofs.BitLaws.{weight_le}
 use Rattle.laws.proofs.Pick.{by_bool}
-use Rattle.outputs.specs.Outputs.{line, general_of, lines_of, cell_of, rest_of, fire_of, CellsFit}
+use Rattle.outputs.specs.Outputs.{line, general_of, lines_of, cell_of, rest_of, fire_of, still_of}
 
 pub general_le : (s o : ℕ) → general_of s o ≤ 16777215
 general_le s o = by_bool (λ (x : ℕ). x ≤ 16777215) (ltb s 8) _ _ (λ e. omega arith) (λ e. omega arith)
@@ -62,12 +63,10 @@ small s q o minus = record {
   fire4 = fire_le s q minus 4;
 }
 
--- The parts at rest as a list.
-pub rests_small : (s q : ℕ) (minus : ℕ → Bool) {rests : List ℕ} → rests ≡ each (rest_of s q minus) → CellsFit rests
-rests_small s q minus e = subst CellsFit (sym e) (record {
-  at0 = rest_le s q minus 0;
-  at1 = rest_le s q minus 1;
-  at2 = rest_le s q minus 2;
-  at3 = rest_le s q minus 3;
-  at4 = rest_le s q minus 4;
-})
+-- Those at rest together.
+pub rests_small : (s q : ℕ) (minus : ℕ → Bool) {rests : List ℕ} → rests ≡ each (rest_of s q minus) → sum rests < 4294967296
+rests_small s q minus e =
+    rw e (omega (arith, rest_le s q minus 0, rest_le s q minus 1, rest_le s q minus 2, rest_le s q minus 3, rest_le s q minus 4))
+
+pub rests_total : (s q : ℕ) (minus : ℕ → Bool) {rests : List ℕ} → rests ≡ each (rest_of s q minus) → sum rests ≡ still_of s q minus
+rests_total s q minus e = rw e (omega arith)

@@ -4,7 +4,7 @@
 --   switch 4-7   bit 2k    plus pulse     first half only       bit 2k+1  minus pulse      first half only
 --   switch 8-B   as 0-3 at bits 4k and 4k+2, each followed by its inverse at 4k+1 and 4k+3
 --   switch D-F   as 4-7 at bits 4k and 4k+2, each followed by its inverse
-use Rattle.std.specs.Prelude.{ℕ, ◌+◌, ◌*◌, ◌/◌, ◌%◌, ◌^◌, ◌≤◌, Bool, true, false, cond, not, ◌&&◌, ◌||◌, List, ltb, leb, eqb, ℤ, pos, negsuc, get_or}
+use Rattle.std.specs.Prelude.{ℕ, ◌+◌, ◌*◌, ◌/◌, ◌%◌, ◌^◌, Bool, true, false, cond, not, ◌&&◌, ◌||◌, ltb, leb, eqb, ℤ, pos, negsuc}
 use Rattle.laws.specs.Axes.{directed, is_minus}
 use Rattle.laws.specs.Bits.{bit, weight, weigh}
 
@@ -90,16 +90,14 @@ rest_of switch polarity minus k = cell_of switch polarity (minus k) (pos 0) fals
 unfoldable pub fire_of : ℕ → ℕ → (ℕ → Bool) → ℕ → ℕ
 fire_of switch polarity minus k = cell_of switch polarity (minus k) (directed (minus k) 1) true k
 
--- What five axes add together, and what each adds at most.
+-- The one or the other: at rest, or where it fires.
+abbrev pub cells_of : ℕ → ℕ → (ℕ → Bool) → Bool → ℕ → ℕ
+cells_of switch polarity minus fires k =
+    cell_of switch polarity (minus k) (cond fires (directed (minus k) 1) (pos 0)) fires k
+
+-- What five axes add together.
 abbrev pub sum_of : (ℕ → ℕ) → ℕ
 sum_of f = f 0 + f 1 + f 2 + f 3 + f 4
-
-pub record CellsFit (l : List ℕ) : Type 0 where
-  pub at0 : get_or l 0 0 ≤ 15
-  pub at1 : get_or l 1 0 ≤ 240
-  pub at2 : get_or l 2 0 ≤ 3840
-  pub at3 : get_or l 3 0 ≤ 61440
-  pub at4 : get_or l 4 0 ≤ 983040
 
 -- What all five add at rest.
 abbrev pub still_of : ℕ → ℕ → (ℕ → Bool) → ℕ

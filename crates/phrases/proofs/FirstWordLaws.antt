@@ -1,5 +1,6 @@
 -- The first word of a line and that of its form are one, but for `silent`, which is no word of the table. Assumes
 -- nothing.
+use Rattle.std.proofs.Common.{None, Some}
 use Prim.Native.Nat.{ℕ, zero, suc, ◌-◌, ◌≤◌, ◌<◌}
 use native.Mathlib.Omega.{arith}
 use mathlib.Core.Bool.{Bool, true, false, cond, false≢true}
@@ -9,7 +10,6 @@ use borrow.Author.Tests.{le-leb, leb-true, ltb-false, eqb-true, eq-eqb}
 use lib.Dec.{ltb, leb, eqb}
 use lib.ListN.{length, get_or, take, drop}
 use lib.Seq.{take_all, take-take, get_or-take, drop-cons}
-use Rattle.digits.specs.declared.Ident.TheVariants.{Absent, Given}
 use Rattle.block.specs.Block.{front_of}
 use Rattle.machine.specs.Calls.{chars}
 use Rattle.receiver.specs.Receiver.{before}
@@ -49,10 +49,10 @@ module _ (u : List ℕ) where
   at = length u - 5
 
   abbrev given : Named
-  given = record { ident = Given (get_or u (length u - 1) 0); length = at }
+  given = record { ident = Some (get_or u (length u - 1) 0); length = at }
 
   abbrev absent : Named
-  absent = record { ident = Absent; length = length u }
+  absent = record { ident = None; length = length u }
 
   cut : (t : Bool) → ltb (length u) 5 ≡ t → cond t false (same (take 4 (drop at u)) (chars " as ")) ≡ true
       → word 0 (front_of u at) ≡ word 0 u

@@ -12,7 +12,7 @@ use Rattle.block.proofs.Blocks.{block_most}
 use Rattle.block.proofs.Buffers.{front_over}
 use Rattle.line.specs.Codes.{is_query}
 use Rattle.host.specs.declared.Request.{Request}
-use Rattle.host.specs.Writer.{Result, line, refused, has_line, line_of, written_of, buffer_of}
+use Rattle.host.specs.Writer.{Written, line, refused, has_line, line_of, written_of, buffer_of}
 use Rattle.text.specs.Parts.{part}
 use Rattle.sentences.specs.Sentences.{turned_text}
 use Rattle.phrases.specs.Phrases.{line_text}
@@ -25,11 +25,11 @@ line_most r =
 
 -- ---- An answer by its cases, with the number that it holds
 
-abbrev is_line : Result → Bool
+abbrev is_line : Written → Bool
 is_line (line n) = true
 is_line (refused n) = false
 
-abbrev number_in : Result → ℕ
+abbrev number_in : Written → ℕ
 number_in (line n) = n
 number_in (refused n) = n
 

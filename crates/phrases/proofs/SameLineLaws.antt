@@ -1,5 +1,6 @@
 -- The line printed for a command, and 0D behind it, is its line: no character of a line is 0D, and no line that means a
 -- command begins with a word that has an answer of its own. Assumes nothing.
+use Rattle.std.proofs.Common.{Some, Ok, Err}
 use Prim.Native.Nat.{ℕ, ◌-◌, ◌≤◌, ◌<◌}
 use native.Mathlib.Omega.{arith}
 use mathlib.Core.Bool.{Bool, true, false, cond, false≢true}
@@ -11,7 +12,6 @@ use lib.ListN.{length, get_or, drop, length-append, length-drop, get_or-append}
 use lib.Seq.{get_or-drop}
 use Rattle.laws.proofs.Pick.{by_lt}
 use Rattle.digits.specs.Digits.{end_byte}
-use Rattle.digits.specs.declared.Ident.TheVariants.{Given}
 use Rattle.line.specs.declared.command.Command.{Command}
 use Rattle.host.specs.declared.Request.{Request}
 use Rattle.host.specs.Writer.{has_line, line_of}
@@ -22,9 +22,7 @@ use Rattle.text.specs.Parts.{part}
 use Rattle.text.proofs.PartLaws.{behind_here}
 use Rattle.sentences.specs.Places as K
 use Rattle.sentences.specs.Sentences.{place_of}
-use Rattle.phrases.specs.declared.meaning.Meant.{Meant}
-use Rattle.phrases.specs.declared.meaning.Meant.TheVariants as M
-use Rattle.phrases.specs.Meanings.{word, meant_at, meant_by}
+use Rattle.phrases.specs.Meanings.{Meant, word, meant_at, meant_by}
 use Rattle.phrases.specs.Phrases.{
   is_silent,
   unsilenced,
@@ -63,11 +61,10 @@ whole_line r e =
 -- ---- A line that means a command is taken as one
 
 abbrev is_command : Meant → Bool
-is_command M.Nothing = false
-is_command (M.Command c) = true
-is_command (M.Refused n) = false
+is_command (Ok c) = true
+is_command (Err e) = false
 
-module _ (l : List ℕ) (c : Command) (e : meant_by (body_of l) ≡ M.Command c) where
+module _ (l : List ℕ) (c : Command) (e : meant_by (body_of l) ≡ Ok c) where
   -- Its first word, which is not `silent`, stands before `opening`.
   early : is_silent l ≡ false → K.opening ≤ place_of (word 0 l) → ⊥
   unfolding meant_by
@@ -98,11 +95,11 @@ module _ (l : List ℕ) (c : Command) (e : meant_by (body_of l) ≡ M.Command c)
   commanded = taken (is_silent l) refl
 
 -- The command's request is the one in the line.
-meant_line : (l : List ℕ) (c : Command) → meant_by (body_of l) ≡ M.Command c → command_text l ≡ line_text (request_in l c)
+meant_line : (l : List ℕ) (c : Command) → meant_by (body_of l) ≡ Ok c → command_text l ≡ line_text (request_in l c)
 unfolding command_text
 meant_line l c e = ap (request_text (is_silent l) (named_of (unsilenced l)).ident l) e
 
-said_line : (l : List ℕ) (c : Command) → meant_by (body_of l) ≡ M.Command c → has_line (request_in l c) ≡ true
+said_line : (l : List ℕ) (c : Command) → meant_by (body_of l) ≡ Ok c → has_line (request_in l c) ≡ true
     → words_text l ++ (end_byte ∷ []) ≡ line_of (request_in l c)
 said_line l c e h =
     ap (λ (x : List ℕ). x ++ (end_byte ∷ [])) (commanded l c e ∙ meant_line l c e) ∙ whole_line (request_in l c) h
@@ -125,11 +122,11 @@ last_typed l = when (is_silent l)
         get_or-drop 7 l (length (drop 7 l) - 1) 0 ∙ ap (λ (k : ℕ). get_or l k 0) (omega (arith, n, h))
     when false e = refl
 
-named_line : (l : List ℕ) (c : Command) → meant_by (body_of l) ≡ M.Command c → has_line (request_in l c) ≡ true
+named_line : (l : List ℕ) (c : Command) → meant_by (body_of l) ≡ Ok c → has_line (request_in l c) ≡ true
     → has_ident (unsilenced l) ≡ true → get_or (words_text l) 8 0 ≡ get_or l (length l - 1) 0
 named_line l c e h t =
     let x = get_or (unsilenced l) (length (unsilenced l) - 1) 0 in
-    let i : (request_in l c).ident ≡ Given x = rw t in
+    let i : (request_in l c).ident ≡ Some x = rw t in
     let n = ninth_of (request_in l c) x h i in
     let s = said_line l c e h in
     let k : 8 < length (words_text l) =

@@ -1,5 +1,6 @@
 -- The digits that are printed for a number, decimal or six hexadecimal ones, spell that number, and none of them is a
 -- space. Assumes nothing.
+use Rattle.std.proofs.Common.{Option, Some}
 use Prim.Native.Nat.{ℕ, zero, suc, ◌+◌, ◌-◌, ◌*◌, ◌/◌, ◌%◌, min, ◌≤◌, ◌<◌}
 use native.Mathlib.Omega.{arith}
 use mathlib.Core.Bool.{false}
@@ -14,8 +15,6 @@ use Rattle.digits.proofs.Laws.{digit_capital}
 use Rattle.text.specs.Decimal.{decimal_of}
 use Rattle.text.proofs.DecimalLaws.{decimal_one, decimal_more}
 use Rattle.numerals.specs.Numerals.{largest, join_of, read_on, spelled_of}
-use Rattle.numerals.specs.declared.Spelled.{Spelled}
-use Rattle.numerals.specs.declared.Spelled.TheVariants.{Number}
 
 -- No character is a space (32).
 abbrev pub NoSpace : List ℕ → Type 0
@@ -29,23 +28,23 @@ no_space_join (c ∷ a) b p q = (p.0, no_space_join a b p.1 q)
 -- What spells a number: characters that are no space and are read as it, one or more.
 pub record Spells (base n : ℕ) (cs : List ℕ) : Type 0 where
   pub some : 1 ≤ length cs
-  pub read : read_on base (Number 0) cs ≡ Number n
+  pub read : read_on base (Some 0) cs ≡ Some n
   pub no_space : NoSpace cs
 
-pub spelled : (base n : ℕ) (cs : List ℕ) → Spells base n cs → spelled_of base cs ≡ Number n
+pub spelled : (base n : ℕ) (cs : List ℕ) → Spells base n cs → spelled_of base cs ≡ Some n
 spelled base n cs s =
     let h : 1 ≤ length cs = s.some in
     rw (ne_eqb (length cs) 0 (λ (q : length cs ≡ 0). omega arith)) s.read
 
 -- ---- Decimal digits
 
-read_last : (base : ℕ) (s : Spelled) (cs : List ℕ) (c : ℕ)
+read_last : (base : ℕ) (s : Option ℕ) (cs : List ℕ) (c : ℕ)
     → read_on base s (cs ++ (c ∷ [])) ≡ join_of base (read_on base s cs) c
 unfolding read_on
 read_last base s [] c = refl
 read_last base s (x ∷ cs) c = read_last base (join_of base s x) cs c
 
-join_decimal : (m v : ℕ) → v < 10 → m * 10 + v ≤ largest → join_of 10 (Number m) (48 + v) ≡ Number (m * 10 + v)
+join_decimal : (m v : ℕ) → v < 10 → m * 10 + v ≤ largest → join_of 10 (Some m) (48 + v) ≡ Some (m * 10 + v)
 join_decimal m v h k =
     let e : 48 + v - 48 ≡ v = omega arith in
     let a : 48 ≤ 48 + v = omega arith in
@@ -60,16 +59,16 @@ one_spells : (n : ℕ) → n < 10 → Spells 10 n ((48 + n) ∷ [])
 unfolding read_on
 one_spells n h = record {
   some = omega arith;
-  read = join_decimal 0 n h (omega arith) ∙ ap Number (omega arith);
+  read = join_decimal 0 n h (omega arith) ∙ ap Some (omega arith);
   no_space = digit_no_space n;
 }
 
 more_spells : (n : ℕ) (ds : List ℕ) → n ≤ largest → Spells 10 (n / 10) ds → Spells 10 n (ds ++ ((48 + n % 10) ∷ []))
 more_spells n ds h s = record {
   some = omega (arith, length-append ds ((48 + n % 10) ∷ []));
-  read = read_last 10 (Number 0) ds (48 + n % 10)
-      ∙ (ap (λ (x : Spelled). join_of 10 x (48 + n % 10)) s.read
-      ∙ (join_decimal (n / 10) (n % 10) (omega arith) (omega arith) ∙ ap Number (omega arith)));
+  read = read_last 10 (Some 0) ds (48 + n % 10)
+      ∙ (ap (λ (x : Option ℕ). join_of 10 x (48 + n % 10)) s.read
+      ∙ (join_decimal (n / 10) (n % 10) (omega arith) (omega arith) ∙ ap Some (omega arith)));
   no_space = no_space_join ds ((48 + n % 10) ∷ []) s.no_space (digit_no_space (n % 10));
 }
 
@@ -88,11 +87,11 @@ decimal_spells n h = decimal_under (suc n) n (omega arith) h
 -- ---- Six hexadecimal digits
 
 -- One more, of the value v: m becomes r.
-join_capital : {s : Spelled} (m v r : ℕ) → s ≡ Number m → v < 16 → r ≡ m * 16 + v → r ≤ largest
-    → join_of 16 s (capital_of v) ≡ Number r
+join_capital : {s : Option ℕ} (m v r : ℕ) → s ≡ Some m → v < 16 → r ≡ m * 16 + v → r ≤ largest
+    → join_of 16 s (capital_of v) ≡ Some r
 join_capital m v r p h e k =
     let z : min largest (m * 16 + v) ≡ r = omega arith in
-    ap (λ (x : Spelled). join_of 16 x (capital_of v)) p ∙ rw (digit_capital v h, lt-ltb v 16 h, z)
+    ap (λ (x : Option ℕ). join_of 16 x (capital_of v)) p ∙ rw (digit_capital v h, lt-ltb v 16 h, z)
 
 capital_no_space : (v : ℕ) → eqb (capital_of v) 32 ≡ false
 capital_no_space v =

@@ -1,23 +1,21 @@
 -- The printed T line as the bench program reads it: the decimal digits of a number from 1 to 1,000,000 are read as that
 -- number, and they are at most seven. Assumes nothing.
+use Rattle.std.proofs.Common.{Option, Some}
 use Prim.Native.Nat.{ℕ, zero, suc, ◌+◌, ◌-◌, ◌*◌, ◌/◌, ◌%◌, ◌≤◌, ◌<◌}
 use native.Mathlib.Omega.{arith}
-use mathlib.Core.Bool.{Bool, true, false, cond}
+use mathlib.Core.Bool.{Bool, false}
 use mathlib.Core.List.{List, [], ◌∷◌, ◌++◌}
 use mathlib.Core.Path.{◌≡◌, refl, ap, ◌∙◌}
 use borrow.Author.Tests.{le-leb, le-ltb, ne_eqb}
-use lib.Dec.{eqb}
 use lib.ListN.{length, get_or, take, drop, length-append}
 use lib.Seq.{take-append_seam, drop-append-add, get_or-append_seam}
 use Rattle.laws.proofs.Pick.{by_lt}
-use Rattle.digits.specs.Digits.{six_of, number_of}
-use Rattle.digits.specs.declared.Number.TheVariants.{Value}
+use Rattle.digits.specs.Digits.{six_of, number_of, numbered}
 use Rattle.digits.proofs.Six.{six_number}
 use Rattle.text.specs.Decimal.{decimal_of}
 use Rattle.text.proofs.DecimalLaws.{decimal_one, decimal_more, more_length}
 use Rattle.session.specs.Asked.{join_of, read_on, count_of, between, last_six, ticks_by, asked_of}
 use Rattle.numerals.specs.Numerals.{spelled_of}
-use Rattle.numerals.specs.declared.Spelled.TheVariants.{Number}
 use Rattle.sentences.specs.Places as K
 use Rattle.sentences.specs.Sentences.{place_of}
 use Rattle.phrases.specs.Meanings.{word, words}
@@ -27,49 +25,43 @@ use Rattle.phrases.specs.Promises.{TickLine}
 -- ---- The digits read
 
 -- A number and one digit more.
-join_is : (m v : ℕ) → v < 10 → m * 10 + v ≤ 1000000 → join_of m (48 + v) ≡ m * 10 + v
-join_is m v h k =
+join_is : (m v : ℕ) → v < 10 → 1 ≤ m * 10 + v → m * 10 + v ≤ 1000000 → join_of (Some m) (48 + v) ≡ Some (m * 10 + v)
+join_is m v h l k =
     let e : 48 + v - 48 ≡ v = omega arith in
     let a : 48 ≤ 48 + v = omega arith in
     let b : 48 + v ≤ 57 = omega arith in
-    rw (e, le-ltb _ _ a, le-ltb _ _ b, le-ltb _ _ k)
+    let z : (m * 10 + v ≡ 0 → ⊥) = λ (q : m * 10 + v ≡ 0). omega arith in
+    rw (e, le-ltb _ _ a, le-ltb _ _ b, ne_eqb _ _ z, le-ltb _ _ k)
 
--- One character more behind digits that make a number.
-read_last : (cs : List ℕ) (m c : ℕ) → 0 < read_on m cs → read_on m (cs ++ (c ∷ [])) ≡ join_of (read_on m cs) c
+-- One character more behind those read.
+read_last : (cs : List ℕ) (s : Option ℕ) (c : ℕ) → read_on s (cs ++ (c ∷ [])) ≡ join_of (read_on s cs) c
 unfolding read_on
-read_last [] m c h = let p : (m ≡ 0 → ⊥) = λ (q : m ≡ 0). omega arith in rw (ne_eqb m 0 p)
-read_last (x ∷ cs) m c h = when (eqb m 0) (λ g. read_last cs (join_of m x) c g) h
-  where
-    when : (t : Bool)
-        → (0 < read_on (join_of m x) cs → read_on (join_of m x) (cs ++ (c ∷ [])) ≡ join_of (read_on (join_of m x) cs) c)
-        → 0 < cond t 0 (read_on (join_of m x) cs)
-        → cond t 0 (read_on (join_of m x) (cs ++ (c ∷ []))) ≡ join_of (cond t 0 (read_on (join_of m x) cs)) c
-    when true f g = absurd (omega arith)
-    when false f g = f g
+read_last [] s c = refl
+read_last (x ∷ cs) s c = read_last cs (join_of s x) c
 
-count_last : (cs : List ℕ) (c : ℕ) → 0 < count_of cs → count_of (cs ++ (c ∷ [])) ≡ join_of (count_of cs) c
+count_last : (cs : List ℕ) (c n : ℕ) → count_of cs ≡ Some n → count_of (cs ++ (c ∷ [])) ≡ join_of (count_of cs) c
 unfolding count_of
-count_last [] c h = absurd (omega arith)
-count_last (x ∷ cs) c h = read_last cs (join_of 0 x) c h
+count_last [] c n h = cc
+count_last (x ∷ cs) c n h = read_last (x ∷ cs) (Some 0) c
 
-count_one : (n : ℕ) → n < 10 → count_of ((48 + n) ∷ []) ≡ n
+count_one : (n : ℕ) → n < 10 → 1 ≤ n → count_of ((48 + n) ∷ []) ≡ Some n
 unfolding count_of read_on
-count_one n h = join_is 0 n h (omega arith) ∙ omega arith
+count_one n h l = join_is 0 n h (omega arith) (omega arith) ∙ ap Some (omega arith)
 
 -- By a bound f above n: the digits of n are those of n / 10 and one more.
-count_under : (f n : ℕ) → n < f → 1 ≤ n → n ≤ 1000000 → count_of (decimal_of n) ≡ n
+count_under : (f n : ℕ) → n < f → 1 ≤ n → n ≤ 1000000 → count_of (decimal_of n) ≡ Some n
 count_under zero n l h k = absurd (omega arith)
 count_under (suc f) n l h k =
-    by_lt {A = ℕ} (λ (x : ℕ). count_of (decimal_of n) ≡ n) n 10 0 0
-    (λ s. ap count_of (decimal_one n s) ∙ count_one n s)
-    (λ s. let e : count_of (decimal_of (n / 10)) ≡ n / 10 =
+    by_lt {A = ℕ} (λ (x : ℕ). count_of (decimal_of n) ≡ Some n) n 10 0 0
+    (λ s. ap count_of (decimal_one n s) ∙ count_one n s h)
+    (λ s. let e : count_of (decimal_of (n / 10)) ≡ Some (n / 10) =
     count_under f (n / 10) (omega arith) (omega arith) (omega arith) in
     ap count_of (decimal_more n s)
-    ∙ (count_last (decimal_of (n / 10)) (48 + n % 10) (omega arith)
-    ∙ (ap (λ (m : ℕ). join_of m (48 + n % 10)) e
-    ∙ (join_is (n / 10) (n % 10) (omega arith) (omega arith) ∙ omega arith))))
+    ∙ (count_last (decimal_of (n / 10)) (48 + n % 10) (n / 10) e
+    ∙ (ap (λ (m : Option ℕ). join_of m (48 + n % 10)) e
+    ∙ (join_is (n / 10) (n % 10) (omega arith) (omega arith) (omega arith) ∙ ap Some (omega arith)))))
 
-count_decimal : (n : ℕ) → 1 ≤ n → n ≤ 1000000 → count_of (decimal_of n) ≡ n
+count_decimal : (n : ℕ) → 1 ≤ n → n ≤ 1000000 → count_of (decimal_of n) ≡ Some n
 count_decimal n h k = count_under (suc n) n (omega arith) h k
 
 -- ---- Their number
@@ -120,11 +112,10 @@ module _ (ds ss : List ℕ) (least : 1 ≤ length ds) (most : length ds ≤ 7) (
       let e : length cs - 6 ≡ length (84 ∷ 32 ∷ ds) + 1 = omega (arith, long) in
       ap (λ (k : ℕ). drop k cs) e ∙ drop-append-add (84 ∷ 32 ∷ ds) (32 ∷ ss) 1
 
-  line_read : (n w : ℕ) (small : Bool) → 1 ≤ n → count_of ds ≡ n → number_of ss ≡ Value w small
-      → asked_of cs ≡ ticks_by n (Value w small)
+  line_read : (n w : ℕ) (small : Bool) → count_of ds ≡ Some n → number_of ss ≡ numbered w small
+      → asked_of cs ≡ ticks_by n (numbered w small)
   unfolding asked_of
-  line_read n w small h p q =
-      let z : (n ≡ 0 → ⊥) = λ (y : n ≡ 0). omega arith in
+  line_read n w small p q =
       rw (
         le-ltb (length cs) 10 (omega (arith, long)),
         le-ltb 16 (length cs) (omega (arith, long)),
@@ -133,21 +124,20 @@ module _ (ds ss : List ℕ) (least : 1 ≤ length ds) (most : length ds ≤ 7) (
         last,
         p,
         q,
-        ne_eqb n 0 z,
       )
 
-tick_read : (n w : ℕ) → 1 ≤ n → n ≤ 1000000 → w < 16777216 → asked_of (tick_text n w) ≡ ticks_by n (Value w false)
+tick_read : (n w : ℕ) → 1 ≤ n → n ≤ 1000000 → w < 16777216 → asked_of (tick_text n w) ≡ ticks_by n (numbered w false)
 unfolding six_of
 tick_read n w h k l =
     rw (le-ltb 16777215 w (omega arith))
-    (line_read (decimal_of n) (six_of w) (one_least n) (seven_most n (omega arith)) refl n w false h
+    (line_read (decimal_of n) (six_of w) (one_least n) (seven_most n (omega arith)) refl n w false
     (count_decimal n h k) (six_number w l))
 
 -- ---- A line of words
 
 module _ (l : List ℕ) (first : place_of (word 0 l) ≡ K.ticks) (low : 1 ≤ number_at l 1)
     (high : number_at l 1 ≤ 1000000) where
-  said_text : (w : ℕ) → words l ≡ 3 → spelled_of 16 (word 2 l) ≡ Number w → words_text l ≡ tick_text (number_at l 1) w
+  said_text : (w : ℕ) → words l ≡ 3 → spelled_of 16 (word 2 l) ≡ Some w → words_text l ≡ tick_text (number_at l 1) w
   unfolding words_text
   said_text w e s = rw (first, e, s, le-leb 1 (number_at l 1) low, le-leb (number_at l 1) 1000000 high)
 

@@ -1,5 +1,6 @@
 -- The printed D line as the program preview reads it: four words, and each number spells what was asked for. Assumes
 -- nothing.
+use Rattle.std.proofs.Common.{Some}
 use Prim.Native.Nat.{ℕ, suc, ◌+◌, ◌≤◌, ◌<◌}
 use native.Mathlib.Omega.{arith}
 use mathlib.Core.List.{List, [], ◌∷◌, ◌++◌}
@@ -13,9 +14,7 @@ use Rattle.text.specs.Decimal.{decimal_of}
 use Rattle.text.specs.Parts.{behind, marks, same}
 use Rattle.text.proofs.DecimalLaws.{decimal_ten}
 use Rattle.numerals.specs.Numerals.{spelled_of}
-use Rattle.numerals.specs.declared.Spelled.TheVariants.{Number}
-use Rattle.screen.specs.Asked.{asked_of}
-use Rattle.screen.specs.declared.asked.Asked.TheVariants.{Trial}
+use Rattle.screen.specs.Asked.{asking, asked_of}
 use Rattle.sentences.specs.Places as K
 use Rattle.sentences.specs.Sentences.{place_of}
 use Rattle.phrases.specs.Meanings.{word, words}
@@ -81,7 +80,7 @@ module _ {k n w : ℕ} (ks ns ws : List ℕ) (a : Spells 10 k ks) (b : Spells 10
       rw (behind_word 1 ks (ns ++ (32 ∷ ws)) a.no_space, behind_word 0 ns ws b.no_space)
       (last_word ws d.no_space)
 
-  line_read : asked_of line ≡ Trial k n w
+  line_read : asked_of line ≡ asking k n w
   unfolding asked_of before behind same
   line_read =
       rw (
@@ -95,7 +94,7 @@ module _ {k n w : ℕ} (ks ns ws : List ℕ) (a : Spells 10 k ks) (b : Spells 10
         spelled 16 w ws d,
       )
 
-trial_read : (k n w : ℕ) → k ≤ 4 → n ≤ 1000000 → w < 16777216 → asked_of (trial_line_text k n w) ≡ Trial k n w
+trial_read : (k n w : ℕ) → k ≤ 4 → n ≤ 1000000 → w < 16777216 → asked_of (trial_line_text k n w) ≡ asking k n w
 unfolding six_of
 trial_read k n w g h l =
     let x : length (decimal_of k) ≤ 10 = decimal_ten k (omega arith) in
@@ -106,13 +105,13 @@ trial_read k n w g h l =
 
 -- ---- A line of words
 
-module _ (l : List ℕ) (k : ℕ) (first : place_of (word 0 l) ≡ K.trial) (m : spelled_of 10 (word 1 l) ≡ Number k) where
-  said_text : (n w : ℕ) → words l ≡ 4 → spelled_of 10 (word 2 l) ≡ Number n → spelled_of 16 (word 3 l) ≡ Number w
+module _ (l : List ℕ) (k : ℕ) (first : place_of (word 0 l) ≡ K.trial) (m : spelled_of 10 (word 1 l) ≡ Some k) where
+  said_text : (n w : ℕ) → words l ≡ 4 → spelled_of 10 (word 2 l) ≡ Some n → spelled_of 16 (word 3 l) ≡ Some w
       → words_text l ≡ trial_line_text k n w
   unfolding words_text
   said_text n w e p q = rw (first, e, m, p, q)
 
-  wordless_text : (n : ℕ) → words l ≡ 3 → spelled_of 10 (word 2 l) ≡ Number n → words_text l ≡ trial_line_text k n 0
+  wordless_text : (n : ℕ) → words l ≡ 3 → spelled_of 10 (word 2 l) ≡ Some n → words_text l ≡ trial_line_text k n 0
   unfolding words_text
   wordless_text n e p = rw (first, e, m, p)
 

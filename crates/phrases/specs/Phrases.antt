@@ -1,8 +1,6 @@
 -- What the desk prints to a line of words (docs/PROTOCOL.md, "From words").
-use Rattle.std.specs.Prelude.{ℕ, ◌-◌, Bool, true, false, cond, List, [], ◌∷◌, ◌++◌, ltb, eqb, length, get_or, take, drop}
+use Rattle.std.specs.Prelude.{ℕ, ◌-◌, Bool, true, false, cond, List, [], ◌∷◌, ◌++◌, ltb, eqb, length, get_or, take, drop, Option, None, Some, Ok, Err}
 use Rattle.digits.specs.Digits.{end_byte, six_of}
-use Rattle.digits.specs.declared.Ident.{Ident}
-use Rattle.digits.specs.declared.Ident.TheVariants.{Absent, Given}
 use Rattle.block.specs.Block.{front_of}
 use Rattle.line.specs.Ranges.{is_within}
 use Rattle.machine.specs.Calls.{chars}
@@ -13,14 +11,11 @@ use Rattle.host.specs.declared.Request.{Request}
 use Rattle.text.specs.Decimal.{decimal_of}
 use Rattle.text.specs.Parts.{part, same}
 use Rattle.numerals.specs.Numerals.{spelled_of}
-use Rattle.numerals.specs.declared.Spelled.{Spelled}
-use Rattle.numerals.specs.declared.Spelled.TheVariants as S
 use Rattle.sentences.specs.Places as K
 use Rattle.sentences.specs.Sentences.{turned_text, question_text, place_of}
-use Rattle.phrases.specs.declared.meaning.Meant.{Meant}
-use Rattle.phrases.specs.declared.meaning.Meant.TheVariants as M
+use Rattle.phrases.specs.declared.meaning.NoCommand.TheVariants as N
 use Rattle.phrases.specs.declared.Named.{Named}
-use Rattle.phrases.specs.Meanings.{word, words, meant_by}
+use Rattle.phrases.specs.Meanings.{Meant, word, words, meant_by}
 
 -- ---- `silent ` before a form, and ` as ` with one character behind it
 
@@ -38,8 +33,8 @@ has_ident l = cond (ltb (length l) 5) false (same (take 4 (drop (length l - 5) l
 abbrev pub named_of : List ℕ → Named
 named_of l =
     cond (has_ident l)
-    (record { ident = Given (get_or l (length l - 1) 0); length = length l - 5 })
-    (record { ident = Absent; length = length l })
+    (record { ident = Some (get_or l (length l - 1) 0); length = length l - 5 })
+    (record { ident = None; length = length l })
 
 -- What is left: the form.
 abbrev pub body_of : List ℕ → List ℕ
@@ -55,10 +50,10 @@ nearest_text l = question_text (word 0 (body_of l))
 abbrev pub line_text : Request → List ℕ
 line_text r = cond (has_line r) (part end_byte 0 (line_of r)) (turned_text 19)
 
-abbrev pub request_text : Bool → Ident → List ℕ → Meant → List ℕ
-request_text silent ident l M.Nothing = nearest_text l
-request_text silent ident l (M.Command c) = line_text (record { silent = silent; command = c; ident = ident })
-request_text silent ident l (M.Refused n) = turned_text n
+abbrev pub request_text : Bool → Option ℕ → List ℕ → Meant → List ℕ
+request_text silent ident l (Err N.Misspelled) = nearest_text l
+request_text silent ident l (Ok c) = line_text (record { silent = silent; command = c; ident = ident })
+request_text silent ident l (Err N.NotExact) = turned_text 21
 
 unfoldable pub command_text : List ℕ → List ℕ
 command_text l = request_text (is_silent l) (named_of (unsilenced l)).ident l (meant_by (body_of l))
@@ -70,13 +65,13 @@ opening_text l = cond (eqb (words l) 1) (part end_byte 0 watch_off) (nearest_tex
 
 -- ---- `master` and five distances: the picker's axis
 
-abbrev pub is_number : Spelled → Bool
-is_number S.Not = false
-is_number (S.Number n) = true
+abbrev pub is_number : Option ℕ → Bool
+is_number None = false
+is_number (Some n) = true
 
-abbrev pub number_of : Spelled → ℕ
-number_of S.Not = 0
-number_of (S.Number n) = n
+abbrev pub number_of : Option ℕ → ℕ
+number_of None = 0
+number_of (Some n) = n
 
 -- The decimal number that the word at place k spells, and whether it spells one.
 abbrev pub is_number_at : List ℕ → ℕ → Bool
@@ -101,6 +96,10 @@ are_distances l =
 abbrev pub distances_of : List ℕ → List ℕ
 distances_of l = number_at l 1 ∷ number_at l 2 ∷ number_at l 3 ∷ number_at l 4 ∷ number_at l 5 ∷ []
 
+-- The five where they are numbers.
+abbrev pub five_of : List ℕ → Option (List ℕ)
+five_of l = cond (are_distances l) (Some (distances_of l)) None
+
 abbrev pub master_text : List ℕ → List ℕ
 master_text l =
     cond (are_distances l) (chars "master " ++ decimal_of (master_of (distances_of l)))
@@ -115,13 +114,13 @@ tick_text n w =
     (chars "T " ++ (decimal_of n ++ (chars " " ++ six_of w)))
 
 -- The bench program takes 1 to 1,000,000 ticks (paper 01, "Host end and program").
-abbrev pub tick_line_text : List ℕ → ℕ → Spelled → List ℕ
-tick_line_text l n S.Not = nearest_text l
-tick_line_text l n (S.Number w) = cond (is_within n 1 1000000) (tick_text n w) (nearest_text l)
+abbrev pub tick_line_text : List ℕ → ℕ → Option ℕ → List ℕ
+tick_line_text l n None = nearest_text l
+tick_line_text l n (Some w) = cond (is_within n 1 1000000) (tick_text n w) (nearest_text l)
 
 abbrev pub ticks_text : List ℕ → List ℕ
 ticks_text l =
-    cond (eqb (words l) 2) (tick_line_text l (number_at l 1) (S.Number 0))
+    cond (eqb (words l) 2) (tick_line_text l (number_at l 1) (Some 0))
     (cond (eqb (words l) 3) (tick_line_text l (number_at l 1) (spelled_of 16 (word 2 l)))
     (nearest_text l))
 
@@ -137,17 +136,17 @@ trial_line_text k n w =
     (chars "D " ++ (decimal_of k ++ (chars " " ++ (decimal_of n ++ (chars " " ++ six_of w)))))))
 
 -- Master, ticks and input word, where each is a number.
-abbrev pub tried_text : List ℕ → Spelled → Spelled → Spelled → List ℕ
-tried_text l S.Not n w = nearest_text l
-tried_text l (S.Number k) S.Not w = nearest_text l
-tried_text l (S.Number k) (S.Number n) S.Not = nearest_text l
-tried_text l (S.Number k) (S.Number n) (S.Number w) = trial_line_text k n w
+abbrev pub tried_text : List ℕ → Option ℕ → Option ℕ → Option ℕ → List ℕ
+tried_text l None n w = nearest_text l
+tried_text l (Some k) None w = nearest_text l
+tried_text l (Some k) (Some n) None = nearest_text l
+tried_text l (Some k) (Some n) (Some w) = trial_line_text k n w
 
 -- Without a number of ticks there are 1,000,000, and without an input word it is 0.
 abbrev pub trial_text : List ℕ → List ℕ
 trial_text l =
-    cond (eqb (words l) 2) (tried_text l (spelled_of 10 (word 1 l)) (S.Number 1000000) (S.Number 0))
-    (cond (eqb (words l) 3) (tried_text l (spelled_of 10 (word 1 l)) (spelled_of 10 (word 2 l)) (S.Number 0))
+    cond (eqb (words l) 2) (tried_text l (spelled_of 10 (word 1 l)) (Some 1000000) (Some 0))
+    (cond (eqb (words l) 3) (tried_text l (spelled_of 10 (word 1 l)) (spelled_of 10 (word 2 l)) (Some 0))
     (cond (eqb (words l) 4)
     (tried_text l (spelled_of 10 (word 1 l)) (spelled_of 10 (word 2 l)) (spelled_of 16 (word 3 l)))
     (nearest_text l)))

@@ -13,16 +13,17 @@ ghost use Rattle.phrases.specs.Phrases.{
   body_of,
   nearest_text,
   line_text,
-  request_text,
   command_text,
+  text_at,
   words_text,
   overlong_text,
 };
 ghost use Rattle.phrases.specs.Promises.{SameLine, TickLine, TrialLine};
 
-use crate::meaning::Meant;
-use digits::{END, Ident};
-use host::{Request, Written};
+use crate::meaning::NoCommand;
+use digits::END;
+use figures::NotExact;
+use host::Request;
 pub use screen::asked::OVERLONG;
 use sentences::places;
 use text::{SPACE, Text, parts};
@@ -32,10 +33,11 @@ mod programs;
 mod single;
 mod trials;
 
-// The identification of a form, and the length of what stands before it.
+// The identification of a form, and the length of what stands before it, as `named_of` states it: a slice in its place
+// would need a lifetime on the type, and says no more.
 #[derive(Drop)]
 struct Named {
-    ident: Ident,
+    ident: Option<u8>,
     length: usize,
 }
 
@@ -61,23 +63,14 @@ fn ident_in(line: &[u8]) -> Named
     ensures { result ≡ named_of line.now }
 {
     let n = line.len();
-    if n < 5 {
+    if 5 <= n && parts::same(&line[n - 5..n - 1], b" as ") {
         return Named {
-            ident: Ident::Absent,
-            length: n,
-        };
-    }
-    let start = n - 5;
-    let end = n - 1;
-    let c = line[end];
-    if parts::same(&line[start..end], b" as ") {
-        return Named {
-            ident: Ident::Given(c),
-            length: start,
+            ident: Some(line[n - 1]),
+            length: n - 5,
         };
     }
     Named {
-        ident: Ident::Absent,
+        ident: None,
         length: n,
     }
 }
@@ -103,28 +96,9 @@ pub fn line_of(text: Text, request: Request) -> Text
     ensures { result ≡ writes text (line_text request) }
 {
     let mut buf = [0u8; 10];
-    let written = host::write_line(&mut buf, request);
-    match written {
-        Written::Length(n) => text.characters(parts::part(block::front(&buf, n), END, 0)),
-        Written::Refused(n) => sentences::turned_away(text, n),
-    }
-}
-
-// What is printed for what the words mean.
-fn requested(text: Text, silent: bool, ident: Ident, line: &[u8], meant: Meant) -> Text
-    ensures { result ≡ writes text (request_text silent ident line.now meant) }
-{
-    match meant {
-        Meant::Nothing => nearest(text, line),
-        Meant::Command(command) => line_of(
-            text,
-            Request {
-                silent,
-                command,
-                ident,
-            },
-        ),
-        Meant::Refused(n) => sentences::turned_away(text, n),
+    match host::write_line(&mut buf, request) {
+        Ok(n) => text.characters(parts::part(block::front(&buf, n), END, 0)),
+        Err(e) => sentences::turned_away(text, u8::from(e)),
     }
 }
 
@@ -132,11 +106,31 @@ fn requested(text: Text, silent: bool, ident: Ident, line: &[u8], meant: Meant) 
 fn command(text: Text, line: &[u8]) -> Text
     ensures { result ≡ writes text (command_text line.now) }
 {
-    let silent = is_silent(line);
-    let named = ident_in(unsilenced(line));
-    let ident = named.ident;
-    let meant = meaning::meaning_of(body(line));
-    requested(text, silent, ident, line, meant)
+    match meaning::meaning_of(body(line)) {
+        Ok(command) => line_of(
+            text,
+            Request {
+                silent: is_silent(line),
+                command,
+                ident: ident_in(unsilenced(line)).ident,
+            },
+        ),
+        Err(NoCommand::Misspelled) => nearest(text, line),
+        Err(NoCommand::NotExact) => sentences::turned_away(text, u8::from(NotExact)),
+    }
+}
+
+// A line of words by the place of its first.
+fn words_at(text: Text, k: usize, line: &[u8]) -> Text
+    ensures { result ≡ writes text (text_at k line.now) }
+{
+    match k {
+        places::OPENING => programs::opening(text, line),
+        places::MASTER => programs::master(text, line),
+        places::TICKS => programs::ticks(text, line),
+        places::TRIAL => trials::trial(text, line),
+        _ => command(text, line),
+    }
 }
 
 // A line of words. That what is printed for a command is its very line, that a printed T line asks for these very
@@ -148,19 +142,7 @@ pub fn words(text: Text, line: &[u8]) -> Text
     ensures trial_line { TrialLine }
 {
     let k = sentences::place_of(parts::part(line, SPACE, 0));
-    if k == places::OPENING {
-        return programs::opening(text, line);
-    }
-    if k == places::MASTER {
-        return programs::master(text, line);
-    }
-    if k == places::TICKS {
-        return programs::ticks(text, line);
-    }
-    if k == places::TRIAL {
-        return trials::trial(text, line);
-    }
-    command(text, line)
+    words_at(text, k, line)
 }
 
 // A line that is too long: so many of its characters are looked at as it had to have.

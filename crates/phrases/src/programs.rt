@@ -2,14 +2,12 @@
 // (docs/PROTOCOL.md, "From words"). Assumes nothing.
 ghost use Rattle.std.specs.Prelude.{◌≡◌};
 ghost use Rattle.text.specs.Text.{writes};
+ghost use Rattle.numerals.specs.Numerals.{spelled_of};
+ghost use Rattle.phrases.specs.Meanings.{word};
 ghost use Rattle.phrases.specs.Phrases.{
   opening_text,
-  is_number,
   number_of,
-  is_number_at,
-  number_at,
-  are_distances,
-  distances_of,
+  five_of,
   master_text,
   tick_text,
   tick_line_text,
@@ -20,7 +18,6 @@ use crate::nearest;
 use controller::LAST_WORD;
 use digits::END;
 use line::command;
-use numerals::Spelled;
 use session::MOST_TICKS;
 use text::{SPACE, Text, parts};
 
@@ -35,128 +32,72 @@ pub(crate) fn opening(text: Text, line: &[u8]) -> Text
     nearest(text, line)
 }
 
-// Whether a number was spelled.
-fn is_number(s: Spelled) -> bool
-    ensures { result ≡ is_number s }
+// The decimal number that the word at place k spells.
+fn number_at(line: &[u8], k: usize) -> Option<u32>
+    ensures { result ≡ spelled_of 10 (word k line.now) }
 {
-    match s {
-        Spelled::Not => false,
-        Spelled::Number(_) => true,
-    }
+    numerals::read_decimal(parts::part(line, SPACE, k))
 }
 
-// The number, or 0.
-fn number(s: Spelled) -> u32
-    ensures { result ≡ number_of s }
-{
-    match s {
-        Spelled::Not => 0,
-        Spelled::Number(n) => n,
-    }
-}
-
-// Whether the word at place k spells a decimal number.
-fn is_number_at(line: &[u8], k: usize) -> bool
-    ensures { result ≡ is_number_at line.now k }
-{
-    let spelled = numerals::read_decimal(parts::part(line, SPACE, k));
-    is_number(spelled)
-}
-
-// The number that it spells, or 0.
-fn number_at(line: &[u8], k: usize) -> u32
-    ensures { result ≡ number_at line.now k }
-{
-    let spelled = numerals::read_decimal(parts::part(line, SPACE, k));
-    number(spelled)
-}
-
-// Whether five numbers follow the first word.
-fn are_distances(line: &[u8]) -> bool
-    ensures { result ≡ are_distances line.now }
+// The five numbers behind the first word.
+fn distances(line: &[u8]) -> Option<[u32; 5]>
+    ensures { result ≡ five_of line.now }
 {
     if parts::parts(line, SPACE) != 6 {
-        return false;
+        return None;
     }
-    if !is_number_at(line, 1) {
-        return false;
-    }
-    if !is_number_at(line, 2) {
-        return false;
-    }
-    if !is_number_at(line, 3) {
-        return false;
-    }
-    if !is_number_at(line, 4) {
-        return false;
-    }
-    is_number_at(line, 5)
-}
-
-// The five numbers.
-fn distances(line: &[u8]) -> [u32; 5]
-    ensures { result ≡ distances_of line.now }
-{
-    [
-        number_at(line, 1),
-        number_at(line, 2),
-        number_at(line, 3),
-        number_at(line, 4),
-        number_at(line, 5),
-    ]
+    Some([
+        number_at(line, 1)?,
+        number_at(line, 2)?,
+        number_at(line, 3)?,
+        number_at(line, 4)?,
+        number_at(line, 5)?,
+    ])
 }
 
 // The picker's axis.
 pub(crate) fn master(text: Text, line: &[u8]) -> Text
     ensures { result ≡ writes text (master_text line.now) }
 {
-    if are_distances(line) {
-        let axis = host::pick_master(distances(line));
-        let word = text.characters(b"master ");
-        return word.decimal(axis as u32);
-    }
-    nearest(text, line)
+    let Some(distances) = distances(line) else {
+        return nearest(text, line);
+    };
+    text.characters(b"master ")
+        .decimal(host::pick_master(distances) as u32)
 }
 
-// A T line, or 3.
+// A T line, or 3, the paper's number for an input word over FFFFFF.
 fn tick_line(text: Text, n: u32, word: u32) -> Text
     ensures { result ≡ writes text (tick_text n word) }
 {
     if LAST_WORD < word {
         return sentences::turned_away(text, 3);
     }
-    let letter = text.characters(b"T ");
-    let count = letter.decimal(n);
-    let space = count.characters(b" ");
-    space.six(word)
+    text.characters(b"T ").decimal(n).characters(b" ").six(word)
 }
 
-// So many ticks with a word.
-fn ticks_by(text: Text, line: &[u8], n: u32, word: Spelled) -> Text
-    ensures { result ≡ writes text (tick_line_text line.now n word) }
+// So many ticks with a word, each spelled or not.
+fn ticks_by(text: Text, line: &[u8], n: Option<u32>, word: Option<u32>) -> Text
+    ensures { result ≡ writes text (tick_line_text line.now (number_of n) word) }
 {
-    match word {
-        Spelled::Not => nearest(text, line),
-        Spelled::Number(w) => {
-            if command::within(n, 1, MOST_TICKS) {
-                return tick_line(text, n, w);
-            }
-            nearest(text, line)
-        }
+    let (Some(n), Some(w)) = (n, word) else {
+        return nearest(text, line);
+    };
+    if !command::within(n, 1, MOST_TICKS) {
+        return nearest(text, line);
     }
+    tick_line(text, n, w)
 }
 
 // The bench program's T line.
 pub(crate) fn ticks(text: Text, line: &[u8]) -> Text
     ensures { result ≡ writes text (ticks_text line.now) }
 {
-    let words = parts::parts(line, SPACE);
-    if words == 2 {
-        return ticks_by(text, line, number_at(line, 1), Spelled::Number(0));
+    let n = number_at(line, 1);
+    let word = numerals::read_hexadecimal(parts::part(line, SPACE, 2));
+    match parts::parts(line, SPACE) {
+        2 => ticks_by(text, line, n, Some(0)),
+        3 => ticks_by(text, line, n, word),
+        _ => nearest(text, line),
     }
-    if words == 3 {
-        let word = numerals::read_hexadecimal(parts::part(line, SPACE, 2));
-        return ticks_by(text, line, number_at(line, 1), word);
-    }
-    nearest(text, line)
 }

@@ -4,109 +4,31 @@
 // system's calls that read and write.
 #![tactic(auto)]
 
+ghost use Rattle.std.specs.Prelude.{IfOk};
 ghost use Rattle.session.specs.Session.{Running};
 
 use crate::passing::Preview;
-use std::io::Read;
+use turns::Stopped;
 
 mod passing;
-mod telling;
 
-// The buffer for the bytes of a read.
-const ROOM: usize = 4096;
-
-// What is to be done after a read.
-#[derive(Clone, Copy)]
-enum Next {
-    // Read on.
-    Read,
-    // End the last line, which may lack its line feed: the input has ended.
-    Finish,
-    // Stop as it is: the input cannot be read, or the output takes no more.
-    Stop,
+// The whole input, and its end.
+fn run(rt: &HostRuntime) -> Result<(), Stopped> {
+    let end = turns::read_all(
+        &mut rt.stdin(),
+        Preview::new(),
+        |preview: Preview, bytes: &[u8]|
+            requires { Running preview.session }
+            ensures { IfOk result (λ end. Running end.session) }
+        { preview.pass(rt, bytes) },
+    )?;
+    end.finish(rt)
 }
 
-// The preview after a read, and what is to be done next.
-#[derive(Drop)]
-struct Turn {
-    preview: Preview,
-    next: Next,
-}
-
-// Reads once, and takes what came.
-fn read_once(rt: &impl Print, input: &mut impl Read, preview: Preview) -> Turn
-    requires { Running preview.session }
-    ensures { Running result.preview.session }
-{
-    let mut buf = [0u8; ROOM];
-    let Ok(n) = input.read(&mut buf) else {
-        return Turn {
-            preview,
-            next: Next::Stop,
-        };
-    };
-    if n == 0 {
-        return Turn {
-            preview,
-            next: Next::Finish,
-        };
-    }
-    let passed = passing::pass_all(rt, preview, &buf[..n]);
-    let after = passed.preview;
-    if passed.written {
-        return Turn {
-            preview: after,
-            next: Next::Read,
-        };
-    }
-    Turn {
-        preview: after,
-        next: Next::Stop,
-    }
-}
-
-// Reads until nothing is left to read. A proved loop has to end, and nothing says that the input does: it has a number
-// of turns that no run uses up.
-fn read_all(rt: &impl Print, input: &mut impl Read, before: Preview) -> Turn
-    requires { Running before.session }
-    ensures { Running result.preview.session }
-{
-    let mut preview = before;
-    for _ in 0..u64::MAX {
-        let turn = read_once(rt, input, preview);
-        let next = turn.next;
-        match next {
-            Next::Read => {
-                let read = turn.preview;
-                preview = read;
-            }
-            Next::Finish => {
-                return turn;
-            }
-            Next::Stop => {
-                return turn;
-            }
-        }
-    }
-    Turn {
-        preview,
-        next: Next::Stop,
-    }
-}
-
-// The whole input, and its end. The exit status is always 0: a word on standard error says that it stopped before the
-// end.
+// The exit status is always 0: a word on standard error says that it stopped before the end.
+// Each program has a main of its own, for its name.
 fn main(rt: HostRuntime) {
-    let start = passing::fresh();
-    let turn = read_all(&rt, &mut rt.stdin(), start);
-    let preview = turn.preview;
-    let next = turn.next;
-    let done = match next {
-        Next::Finish => passing::finish(&rt, preview),
-        Next::Read => false,
-        Next::Stop => false,
-    };
-    if !done {
+    if run(&rt).is_err() {
         let _ = eprintln!(rt; "preview: stopped, input or output failed");
     }
 }

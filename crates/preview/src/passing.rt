@@ -1,12 +1,14 @@
 // What preview does with a byte (docs/PROTOCOL.md, "A dose on screen first"): a line that begins with D is kept and
 // answered by `screen`, and nothing of it goes in; every other byte goes to the bench, and what that would print is
-// told in words. Assumes nothing.
+// told in words, as the desk tells it. Once the output has failed nothing more is written, so that what was written is
+// a first part of what is printed. Assumes nothing.
+ghost use Rattle.std.specs.Prelude.{IfOk};
 ghost use Rattle.session.specs.Session.{Running};
 
-use crate::telling;
 use block::REPLY_ROOM;
 use session::Session;
 use text::{FEED, Text};
+use turns::Stopped;
 use wording::Desk;
 
 // The letter D.
@@ -22,143 +24,101 @@ pub(crate) struct Preview {
     begins: bool,
 }
 
-// The preview after some bytes, and whether the output took all that was printed.
-#[derive(Drop)]
-pub(crate) struct Passed {
-    pub(crate) preview: Preview,
-    pub(crate) written: bool,
-}
-
-// Power-on with switch 0 and the host's first line, before any input.
-pub(crate) fn fresh() -> Preview
-    ensures { Running result.session }
-{
-    let session = Session::new();
-    let desk = Desk::new();
-    let line = Text::new();
-    Preview {
-        session,
-        desk,
-        line,
-        begins: true,
+impl Preview {
+    // Power-on with switch 0 and the host's first line, before any input.
+    pub(crate) fn new() -> Preview
+        ensures { Running result.session }
+    {
+        Preview {
+            session: Session::new(),
+            desk: Desk::new(),
+            line: Text::new(),
+            begins: true,
+        }
     }
-}
 
-// A byte that goes to the bench.
-fn send(rt: &impl Print, before: Passed, b: u8) -> Passed
-    requires { Running before.preview.session }
-    ensures { Running result.preview.session }
-{
-    let mut buf = [0u8; REPLY_ROOM];
-    let preview = before.preview;
-    let bench = preview.session;
-    let taken = bench.take(&mut buf, b);
-    let session = taken.session;
-    let was = preview.desk;
-    let told = telling::tell(rt, before.written, was, block::front(&buf, taken.length));
-    let desk = told.desk;
-    let line = Text::new();
-    let preview = Preview {
-        session,
-        desk,
-        line,
-        begins: b == FEED,
-    };
-    Passed {
-        preview,
-        written: told.written,
+    // Whether a byte belongs to a line that begins with D: one is under way, or the byte begins one.
+    fn keeps(&self, b: u8) -> bool {
+        self.line.count != 0 || self.begins && b == LETTER
     }
-}
 
-// The answer to the line that begins with D.
-fn answer(rt: &impl Print, written: bool, session: Session, line: Text) -> bool
-    requires { Running session }
-{
-    let controller = session.controller();
-    let chars = line.chars;
-    let n = line.count as usize;
-    let text = screen::answer(controller, block::front(&chars, n));
-    telling::print(rt, written, text)
-}
+    // A byte that goes to the bench.
+    fn send(self, rt: &impl Print, b: u8) -> Result<Preview, Stopped>
+        requires { Running self.session }
+        ensures { IfOk result (λ end. Running end.session) }
+    {
+        let mut buf = [0u8; REPLY_ROOM];
+        let taken = self.session.take(&mut buf, b);
+        Ok(Preview {
+            session: taken.session,
+            desk: telling::tell(rt, self.desk, block::front(&buf, taken.length))?,
+            line: Text::new(),
+            begins: b == FEED,
+        })
+    }
 
-// A byte of the line that begins with D.
-fn keep(rt: &impl Print, before: Passed, b: u8) -> Passed
-    requires { Running before.preview.session }
-    ensures { Running result.preview.session }
-{
-    let preview = before.preview;
-    let session = preview.session;
-    let desk = preview.desk;
-    let so_far = preview.line;
-    let mut line = so_far.with(b);
-    let mut written = before.written;
-    if b == FEED {
-        written = answer(rt, written, session, so_far);
-        line = Text::new();
+    // The answer to the line that begins with D.
+    fn answer(&self, rt: &impl Print) -> Result<(), Stopped>
+        requires { Running self.now.session }
+    {
+        let text = screen::answer(self.session.controller(), self.line.bytes());
+        rt.write_all(text.bytes())?;
+        Ok(())
     }
-    let preview = Preview {
-        session,
-        desk,
-        line,
-        begins: b == FEED,
-    };
-    Passed { preview, written }
-}
 
-// Whether a byte belongs to a line that begins with D: one is under way, or the byte begins one.
-fn keeps(preview: Preview, b: u8) -> bool {
-    let line = preview.line;
-    if line.count != 0 {
-        return true;
+    // A byte of the line that begins with D.
+    fn keep(self, rt: &impl Print, b: u8) -> Result<Preview, Stopped>
+        requires { Running self.session }
+        ensures { IfOk result (λ end. Running end.session) }
+    {
+        let line = if b == FEED {
+            self.answer(rt)?;
+            Text::new()
+        } else {
+            self.line.with(b)
+        };
+        Ok(Preview {
+            session: self.session,
+            desk: self.desk,
+            line,
+            begins: b == FEED,
+        })
     }
-    if preview.begins {
-        return b == LETTER;
-    }
-    false
-}
 
-// One byte.
-fn pass(rt: &impl Print, before: Passed, b: u8) -> Passed
-    requires { Running before.preview.session }
-    ensures { Running result.preview.session }
-{
-    let preview = before.preview;
-    if keeps(preview, b) {
-        return keep(rt, before, b);
+    // One byte.
+    fn take(self, rt: &impl Print, b: u8) -> Result<Preview, Stopped>
+        requires { Running self.session }
+        ensures { IfOk result (λ end. Running end.session) }
+    {
+        if self.keeps(b) {
+            self.keep(rt, b)
+        } else {
+            self.send(rt, b)
+        }
     }
-    send(rt, before, b)
-}
 
-// The bytes of a read, one after another.
-pub(crate) fn pass_all(rt: &impl Print, preview: Preview, bytes: &[u8]) -> Passed
-    requires { Running preview.session }
-    ensures { Running result.preview.session }
-{
-    let mut passed = Passed {
-        preview,
-        written: true,
-    };
-    let mut i = 0;
-    while i < bytes.len() {
-        let next = pass(rt, passed, bytes[i]);
-        passed = next;
-        i += 1;
+    // The bytes of a read, one after another.
+    pub(crate) fn pass(self, rt: &impl Print, bytes: &[u8]) -> Result<Preview, Stopped>
+        requires { Running self.session }
+        ensures { IfOk result (λ end. Running end.session) }
+    {
+        let mut preview = self;
+        for &b in bytes {
+            preview = preview.take(rt, b)?;
+        }
+        Ok(preview)
     }
-    passed
-}
 
-// The end of the input, whose last line may lack its line feed; and whether the output took what that prints.
-pub(crate) fn finish(rt: &impl Print, preview: Preview) -> bool
-    requires { Running preview.session }
-{
-    let session = preview.session;
-    let line = preview.line;
-    if line.count != 0 {
-        return answer(rt, true, session, line);
+    // The end of the input, whose last line may lack its line feed.
+    pub(crate) fn finish(self, rt: &impl Print) -> Result<(), Stopped>
+        requires { Running self.session }
+    {
+        if self.line.count != 0 {
+            return self.answer(rt);
+        }
+        let mut buf = [0u8; REPLY_ROOM];
+        let taken = self.session.finish(&mut buf);
+        telling::tell(rt, self.desk, block::front(&buf, taken.length))?;
+        Ok(())
     }
-    let mut buf = [0u8; REPLY_ROOM];
-    let taken = session.finish(&mut buf);
-    let desk = preview.desk;
-    let told = telling::tell(rt, true, desk, block::front(&buf, taken.length));
-    told.written
 }

@@ -1,4 +1,5 @@
 -- Each form of a reply block, read back: what the reader gives is what the block was made from. Assumes nothing.
+use Rattle.std.proofs.Common.{Option, None, Some}
 use Prim.Native.Nat.{ℕ, ◌-◌, ◌%◌, ◌≤◌, ◌<◌}
 use native.Mathlib.Omega.{arith}
 use mathlib.Core.Bool.{Bool, false}
@@ -7,8 +8,6 @@ use borrow.Author.Tests.{lt-ltb, le-ltb, ne_eqb, ltb-false}
 use lib.IntN.{ℤ, pos, negsuc}
 use Rattle.laws.proofs.Pick.{by_lt}
 use Rattle.digits.specs.Digits.{five_digits, six_digits, top_bit, six_of}
-use Rattle.digits.specs.declared.Ident.{Ident}
-use Rattle.digits.specs.declared.Ident.TheVariants.{Absent, Given}
 use Rattle.digits.proofs.Laws.{digit_capital}
 use Rattle.digits.proofs.Six.{six_number}
 use Rattle.block.specs.Block.{block_of}
@@ -66,15 +65,15 @@ signed_inside v h =
 -- ---- blocks
 
 -- The fields of a block that starts so and says n.
-block_read : (letter switch n : ℕ) (ident : Ident) → Framed switch ident → n < six_digits
+block_read : (letter switch n : ℕ) (ident : Option ℕ) → Framed switch ident → n < six_digits
     → read_of (block_for switch letter n ident) ≡ fields_in letter switch n ident
 unfolding read_of block_of six_of
-block_read letter switch n Absent h low =
+block_read letter switch n None h low =
     rw (digit_capital switch h.digit, ne_eqb switch 12 h.other, six_number n low)
-block_read letter switch n (Given c) h low =
+block_read letter switch n (Some c) h low =
     rw (h.named, digit_capital switch h.digit, ne_eqb switch 12 h.other, six_number n low)
 
-module _ (switch : ℕ) (ident : Ident) (h : Framed switch ident) where
+module _ (switch : ℕ) (ident : Option ℕ) (h : Framed switch ident) where
   pub verdict_read : (n : ℕ) → n < six_digits → VerdictFits n ident
       → read_of (block_for switch letter_u n ident) ≡ verdict switch n ident
   unfolding fields_in

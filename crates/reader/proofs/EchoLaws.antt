@@ -1,4 +1,6 @@
 -- The digits of an echo, by the reader's test and by the line Q that they are of. Assumes nothing.
+use Rattle.line.specs.declared.Refusal.TheVariants as N
+use Rattle.std.proofs.Common.{Err}
 use Prim.Native.Nat.{ℕ, ◌%◌, ◌≤◌}
 use native.Mathlib.Omega.{arith}
 use mathlib.Core.Bool.{Bool, true, false, cond, not}
@@ -8,10 +10,9 @@ use lib.Dec.{leb, eqb}
 use Rattle.laws.proofs.Pick.{by_bool, by_eq}
 use Rattle.line.specs.declared.command.Command.{Command}
 use Rattle.line.specs.declared.command.Command.TheVariants as C
-use Rattle.line.specs.declared.Judged.TheVariants.{Accepted, Refused}
 use Rattle.line.specs.Ranges.{is_within, is_axis, is_order, input_bits, setting_fits}
 use Rattle.line.specs.Codes.{letter_q, code, five, second, row_q}
-use Rattle.line.specs.Line.{judge_row, judge_value}
+use Rattle.line.specs.Line.{judge_row, judge_value, accepting}
 use Rattle.line.proofs.Ranges.{within}
 use Rattle.reader.specs.Reader.{is_echo}
 use Rattle.reader.specs.Blocks.{is_accepted}
@@ -38,7 +39,7 @@ module _ (n : ℕ) where
       by_eq (λ (_ : Bool). setting_fits k v ≡ input_bits v) k 13 true false (λ q. rw q)
       λ other. let q : k ≡ 14 = omega (arith, t.0, t.1, other) in rw q
 
-  accepted_if : (t : Bool) (c : Command) → is_accepted (cond (not t) (Refused 10) (Accepted c n)) ≡ t
+  accepted_if : (t : Bool) (c : Command) → is_accepted (cond (not t) (Err N.Range) (accepting c n)) ≡ t
   accepted_if true c = refl
   accepted_if false c = refl
 

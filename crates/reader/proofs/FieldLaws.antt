@@ -1,4 +1,5 @@
 -- The fields that the reader takes: each block's are in their ranges, and its bytes say just them. Assumes nothing.
+use Rattle.std.proofs.Common.{Option}
 use Prim.Native.Nat.{ℕ, ◌+◌, ◌-◌, ◌%◌, ◌<◌}
 use native.Mathlib.Omega.{arith}
 use mathlib.Core.List.{List}
@@ -7,7 +8,6 @@ use lib.Dec.{leb}
 use lib.IntN.{ℤ, pos, negsuc}
 use Rattle.laws.proofs.Pick.{by_bool, by_lt, by_le, by_eq}
 use Rattle.digits.specs.Digits.{five_digits, six_digits, top_bit}
-use Rattle.digits.specs.declared.Ident.{Ident}
 use Rattle.line.specs.Codes.{code, five}
 use Rattle.reply.specs.Reply.{
   coded,
@@ -34,7 +34,7 @@ twenty_signed : (v : ℕ) → v < five_digits → twenty (signed v) ≡ v
 twenty_signed v h =
     by_lt (λ (z : ℤ). twenty z ≡ v) v top_bit (pos v) (negsuc (1048575 - v)) (λ k. omega arith) (λ k. omega arith)
 
-module _ (switch n : ℕ) (ident : Ident) (s : List ℕ) (frame : Framed switch ident) (low : n < six_digits) where
+module _ (switch n : ℕ) (ident : Option ℕ) (s : List ℕ) (frame : Framed switch ident) (low : n < six_digits) where
   verdict_spelt : block_for switch letter_u n ident ≡ s → Spelt s (verdict_in switch n ident)
   verdict_spelt e =
       by_bool (Spelt s) (is_verdict n ident) _ _

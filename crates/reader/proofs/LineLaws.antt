@@ -1,17 +1,17 @@
 -- What a judged line tells of its identification and its digits: an accepted line's identification is one, and so is
 -- that which a turned-away line is answered with; an order's digits have its code and range. Assumes nothing.
+use Rattle.line.specs.declared.Accepted.{Accepted}
+use Rattle.line.specs.declared.Refusal.{Refusal}
+use Rattle.std.proofs.Common.{Option, Result, Ok, Err}
 use Prim.Native.Nat.{ℕ, ◌≤◌, ◌<◌}
 use native.Mathlib.Omega.{arith}
 use mathlib.Core.Bool.{true}
 use mathlib.Core.List.{List}
 use mathlib.Core.Path.{◌≡◌, sym, ◌∙◌}
-use Rattle.digits.specs.declared.Ident.{Ident}
 use Rattle.line.specs.declared.command.Command.{Command}
 use Rattle.line.specs.declared.command.Command.TheVariants as C
-use Rattle.line.specs.declared.Judged.{Judged}
-use Rattle.line.specs.declared.Judged.TheVariants.{Accepted, Refused}
 use Rattle.line.specs.Codes.{code}
-use Rattle.line.specs.Line.{ident_of, digit_count, judge_of}
+use Rattle.line.specs.Line.{ident_of, digit_count, judge_of, refusal_number}
 use Rattle.line.specs.Fits.{CommandFits, OrderFits, JudgedFits}
 use Rattle.line.proofs.Fits.{judge_fits}
 use Rattle.line.proofs.Ranges.{by_order, by_setting}
@@ -66,17 +66,17 @@ echoed (C.Read r) n h f = always
 
 -- Of a line with this identification: accepted, the identification is one and the digits are the command's; turned
 -- away, the identification that answers is one.
-pub record Accepts (ident : Ident) (c : Command) (n : ℕ) : Type 0 where
+pub record Accepts (ident : Option ℕ) (c : Command) (n : ℕ) : Type 0 where
   pub named : ident_fits ident ≡ true
   pub digits : Echoed c n
 
-abbrev pub Tells : Ident → Judged → Type 0
-Tells ident (Accepted c n) = Accepts ident c n
-Tells ident (Refused n) = ident_fits (refusal_ident n ident) ≡ true
+abbrev pub Tells : Option ℕ → Result Accepted Refusal → Type 0
+Tells ident (Ok a) = Accepts ident a.command a.digits
+Tells ident (Err r) = ident_fits (refusal_ident (refusal_number r) ident) ≡ true
 
-tells : (ident : Ident) (count : ℕ) (j : Judged) → JudgedFits j → Named ident count j → Tells ident j
-tells ident count (Accepted c n) f e = record { named = e.0; digits = echoed c n f.command f.order }
-tells ident count (Refused n) f e = e
+tells : (ident : Option ℕ) (count : ℕ) (j : Result Accepted Refusal) → JudgedFits j → Named ident count j → Tells ident j
+tells ident count (Ok a) f e = record { named = e.0; digits = echoed a.command a.digits f.command f.order }
+tells ident count (Err r) f e = e
 
 -- Every line's judgement.
 pub line_tells : (cs : List ℕ) → Tells (ident_of cs) (judge_of cs)

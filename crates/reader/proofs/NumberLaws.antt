@@ -1,4 +1,5 @@
 -- The numbers that turn lines away, as U blocks tell them: 4 to 17, and 26. Assumes nothing.
+use Rattle.std.proofs.Common.{Option, None}
 use Prim.Native.Nat.{ℕ, ◌≤◌, ◌<◌}
 use native.Mathlib.Omega.{arith}
 use mathlib.Core.Bool.{Bool, true, false, cond, not, ◌&&◌}
@@ -6,8 +7,6 @@ use mathlib.Core.Path.{◌≡◌, refl}
 use lib.Dec.{ltb, eqb, lit≤}
 use Rattle.laws.specs.Axes.{some}
 use Rattle.laws.proofs.Pick.{by_bool}
-use Rattle.digits.specs.declared.Ident.{Ident}
-use Rattle.digits.specs.declared.Ident.TheVariants.{Absent}
 use Rattle.line.specs.declared.command.Command.{Command}
 use Rattle.line.specs.declared.command.Command.TheVariants as C
 use Rattle.reply.specs.Reply.{refusal_ident}
@@ -33,10 +32,10 @@ pub known : (n : ℕ) → 4 ≤ n → n ≤ 17 → Known n
 known n h k = (h, λ (q : 17 < n). absurd (omega arith))
 
 -- With the identification that a turned-away line is answered with.
-pub refusal_fits : (n : ℕ) (ident : Ident) → Known n → VerdictFits n (refusal_ident n ident)
+pub refusal_fits : (n : ℕ) (ident : Option ℕ) → Known n → VerdictFits n (refusal_ident n ident)
 refusal_fits n ident h _ = record { low = h.0; high = h.1; own = own (ltb n 8) }
   where
-    own : (t : Bool) → cond t Absent (cond t Absent ident) ≡ cond t Absent ident
+    own : (t : Bool) → cond t None (cond t None ident) ≡ cond t None ident
     own true = refl
     own false = refl
 

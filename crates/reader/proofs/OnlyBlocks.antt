@@ -1,5 +1,6 @@
 -- What the reader takes is exactly the blocks: each block is read as the figures that it says, and whatever is read is
 -- a block that says just this. All else is 20. Assumes nothing.
+use Rattle.std.proofs.Common.{Option, None, Some}
 use Prim.Native.Nat.{ℕ, ◌<◌}
 use native.Mathlib.Omega.{arith}
 use mathlib.Core.Bool.{Bool, true, false}
@@ -9,8 +10,6 @@ use borrow.Author.Tests.{eqb-true, eqb-false}
 use lib.Dec.{eqb}
 use Rattle.laws.proofs.Pick.{by_bool, by_eq}
 use Rattle.digits.specs.Digits.{six_digits, digit_of, number_of}
-use Rattle.digits.specs.declared.Ident.{Ident}
-use Rattle.digits.specs.declared.Ident.TheVariants.{Absent, Given}
 use Rattle.digits.proofs.CharacterLaws.{one_to_one}
 use Rattle.digits.proofs.Laws.{digit_tells}
 use Rattle.line.specs.Line.{is_ident}
@@ -45,15 +44,15 @@ only_blocks (a ∷ b ∷ c1 ∷ c2 ∷ c3 ∷ c4 ∷ c5 ∷ c6 ∷ []) = refl
 only_blocks (a ∷ b ∷ c1 ∷ c2 ∷ c3 ∷ c4 ∷ c5 ∷ c6 ∷ z ∷ []) =
     by_eq (Spelt (a ∷ b ∷ c1 ∷ c2 ∷ c3 ∷ c4 ∷ c5 ∷ c6 ∷ z ∷ [])) z 13 _ _
     (λ e. subst (λ (x : ℕ). Spelt (a ∷ b ∷ c1 ∷ c2 ∷ c3 ∷ c4 ∷ c5 ∷ c6 ∷ x ∷ [])
-    (switch_in a (digit_of b) (number_of (c1 ∷ c2 ∷ c3 ∷ c4 ∷ c5 ∷ c6 ∷ [])) Absent)) (sym e)
-    (switch_spelt a b c1 c2 c3 c4 c5 c6 Absent refl (digit_of b) (digit_tells b)))
+    (switch_in a (digit_of b) (number_of (c1 ∷ c2 ∷ c3 ∷ c4 ∷ c5 ∷ c6 ∷ [])) None)) (sym e)
+    (switch_spelt a b c1 c2 c3 c4 c5 c6 None refl (digit_of b) (digit_tells b)))
     (λ _. refl)
 only_blocks (a ∷ b ∷ c1 ∷ c2 ∷ c3 ∷ c4 ∷ c5 ∷ c6 ∷ y ∷ z ∷ []) =
     by_eq (Spelt (a ∷ b ∷ c1 ∷ c2 ∷ c3 ∷ c4 ∷ c5 ∷ c6 ∷ y ∷ z ∷ [])) z 13 _ _
     (λ e. by_bool (Spelt (a ∷ b ∷ c1 ∷ c2 ∷ c3 ∷ c4 ∷ c5 ∷ c6 ∷ y ∷ z ∷ [])) (is_ident (digit_of y)) _ _
     (λ k. subst (λ (x : ℕ). Spelt (a ∷ b ∷ c1 ∷ c2 ∷ c3 ∷ c4 ∷ c5 ∷ c6 ∷ y ∷ x ∷ [])
-    (switch_in a (digit_of b) (number_of (c1 ∷ c2 ∷ c3 ∷ c4 ∷ c5 ∷ c6 ∷ [])) (Given y))) (sym e)
-    (switch_spelt a b c1 c2 c3 c4 c5 c6 (Given y) k (digit_of b) (digit_tells b)))
+    (switch_in a (digit_of b) (number_of (c1 ∷ c2 ∷ c3 ∷ c4 ∷ c5 ∷ c6 ∷ [])) (Some y))) (sym e)
+    (switch_spelt a b c1 c2 c3 c4 c5 c6 (Some y) k (digit_of b) (digit_tells b)))
     (λ _. refl))
     (λ _. refl)
 only_blocks (a ∷ b ∷ c1 ∷ c2 ∷ c3 ∷ c4 ∷ c5 ∷ c6 ∷ y ∷ z ∷ x ∷ l) =
@@ -62,7 +61,7 @@ only_blocks (a ∷ b ∷ c1 ∷ c2 ∷ c3 ∷ c4 ∷ c5 ∷ c6 ∷ y ∷ z ∷ x
 
 -- ---- every block, and nothing else
 
-number_low : (n : ℕ) (ident : Ident) → VerdictFits n ident → n < six_digits
+number_low : (n : ℕ) (ident : Option ℕ) → VerdictFits n ident → n < six_digits
 number_low n ident f =
     by_bool (λ (x : Bool). n < six_digits) (eqb n 0) true false (λ e. let z = eqb-true n 0 e in omega arith)
     (λ e. let h = turned_most n (f (eqb-false n 0 e)).high in omega arith)

@@ -1,5 +1,8 @@
 -- The round trip of replies: whatever calls a controller has had, the reply to each byte is blocks one behind the
 -- other, and the reader gives of each the figures that it was made from. Assumes nothing.
+use Rattle.line.specs.declared.Accepted.{Accepted}
+use Rattle.line.specs.declared.Refusal.{Refusal}
+use Rattle.std.proofs.Common.{Option, Result, Ok, Err}
 use Prim.Native.Nat.{ℕ}
 use native.Mathlib.Omega.{arith}
 use mathlib.Core.Bool.{Bool, true, false, cond}
@@ -9,10 +12,7 @@ use borrow.Author.Tests.{eqb-false}
 use lib.Dec.{ltb, eqb}
 use lib.ListN.{length}
 use Rattle.laws.proofs.Pick.{by_bool}
-use Rattle.digits.specs.declared.Ident.{Ident}
-use Rattle.line.specs.declared.Judged.{Judged}
-use Rattle.line.specs.declared.Judged.TheVariants.{Accepted, Refused}
-use Rattle.line.specs.Line.{silent_of, ident_of, judge_of}
+use Rattle.line.specs.Line.{silent_of, ident_of, judge_of, refusal_number}
 use Rattle.line.specs.Fits.{JudgedFits}
 use Rattle.line.proofs.Fits.{judge_fits}
 use Rattle.receiver.specs.Receiver.{Receipt, receive}
@@ -55,20 +55,20 @@ unless_silent_lem false r = r
 abbrev Said : Machine → ℕ → Outcome → Type 0
 Said m b o = ReadsAs (answered m b o).reply (said_of m m.inputs o)
 
-refused_said : (m : Machine) (b n : ℕ) (silent : Bool) (ident : Ident) → Kept m → Known n
+refused_said : (m : Machine) (b n : ℕ) (silent : Bool) (ident : Option ℕ) → Kept m → Known n
     → ident_fits (refusal_ident n ident) ≡ true → Said m b (refused n silent ident)
 refused_said m b n silent ident k h e = unless_silent_lem silent (refusal_reads m n ident k h e)
 
-decided_said : (m : Machine) (b : ℕ) (silent : Bool) (ident : Ident) (j : Judged) → Fits m → Kept m → JudgedFits j
+decided_said : (m : Machine) (b : ℕ) (silent : Bool) (ident : Option ℕ) (j : Result Accepted Refusal) → Fits m → Kept m → JudgedFits j
     → Tells ident j → Said m b (decided m silent ident j)
-decided_said m b silent ident (Refused n) f k h t =
+decided_said m b silent ident (Err r) f k h t =
     let y = h.1 in
-    refused_said m b n silent ident k (known n h.0 (omega arith)) t
-decided_said m b silent ident (Accepted c n) f k h t =
-    by_bool (Said m b) (eqb (number m c) 0) (accepted c n silent ident) (refused (number m c) silent ident)
-    (λ _. unless_silent_lem silent (reply_reads m f k ident t.named c n h.command h.digits t.digits))
-    (λ q. refused_said m b (number m c) silent ident k (number_late m c (eqb-false (number m c) 0 q))
-    (named_late ident (number m c) t.named))
+    refused_said m b (refusal_number r) silent ident k (known (refusal_number r) h.0 (omega arith)) t
+decided_said m b silent ident (Ok a) f k h t =
+    by_bool (Said m b) (eqb (number m a.command) 0) (accepted a.command a.digits silent ident) (refused (number m a.command) silent ident)
+    (λ _. unless_silent_lem silent (reply_reads m f k ident t.named a.command a.digits h.command h.digits t.digits))
+    (λ q. refused_said m b (number m a.command) silent ident k (number_late m a.command (eqb-false (number m a.command) 0 q))
+    (named_late ident (number m a.command) t.named))
 
 heard_said : (m : Machine) (b : ℕ) → Fits m → Kept m → Said m b (outcome_of m (receive m.line b).heard)
 heard_said m b f k =

@@ -1,5 +1,6 @@
 -- The replies of a machine, block by block: the reader gives of each the figures that it was made from. Assumes
 -- nothing.
+use Rattle.std.proofs.Common.{Option}
 use Prim.Native.Nat.{ℕ, ◌<◌}
 use native.Mathlib.Omega.{arith}
 use mathlib.Core.Bool.{Bool, true, false, ◌||◌}
@@ -9,7 +10,6 @@ use borrow.Author.Tests.{ltb-false}
 use lib.Dec.{ltb, lit<}
 use Rattle.laws.proofs.BitLaws.{weight_le}
 use Rattle.digits.specs.Digits.{six_digits}
-use Rattle.digits.specs.declared.Ident.{Ident}
 use Rattle.block.specs.Block.{row_of}
 use Rattle.line.specs.declared.command.Reading.{Reading}
 use Rattle.line.specs.declared.command.Reading.TheVariants as R
@@ -90,10 +90,10 @@ status_low m =
     )
 
 -- Its switch, with an identification.
-framed : (m : Machine) (ident : Ident) → Kept m → ident_fits ident ≡ true → Framed m.switch ident
+framed : (m : Machine) (ident : Option ℕ) → Kept m → ident_fits ident ≡ true → Framed m.switch ident
 framed m ident k named = record { digit = k.switch.low; other = k.switch.other; named = named }
 
-module _ (m : Machine) (f : Fits m) (k : Kept m) (ident : Ident) (named : ident_fits ident ≡ true) where
+module _ (m : Machine) (f : Fits m) (k : Kept m) (ident : Option ℕ) (named : ident_fits ident ≡ true) where
   zero_read : ReadsAs (block_for m.switch letter_u 0 ident) (verdict m.switch 0 ident ∷ [])
   zero_read =
       one_read (verdict_read m.switch ident (framed m ident k named) 0 (omega arith) (λ no. absurd (no refl)))
@@ -180,7 +180,7 @@ module _ (m : Machine) (f : Fits m) (k : Kept m) (ident : Ident) (named : ident_
   reply_reads (C.Read r) n h low e = reading_reads r h
 
 -- The reply to a turned-away line.
-pub refusal_reads : (m : Machine) (n : ℕ) (ident : Ident) → Kept m → Known n
+pub refusal_reads : (m : Machine) (n : ℕ) (ident : Option ℕ) → Kept m → Known n
     → ident_fits (refusal_ident n ident) ≡ true
     → ReadsAs (refusal m n ident) (verdict m.switch n (refusal_ident n ident) ∷ [])
 unfolding refusal_of

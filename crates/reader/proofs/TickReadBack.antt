@@ -1,5 +1,8 @@
 -- The round trip of a tick's block: whatever calls a controller has had, the reader gives of it the figures that the
 -- list of calls tells. Assumes nothing.
+use Rattle.line.specs.declared.Accepted.{Accepted}
+use Rattle.line.specs.declared.Refusal.{Refusal}
+use Rattle.std.proofs.Common.{Option, Result, Ok, Err}
 use Prim.Native.Nat.{ℕ, ◌<◌}
 use native.Mathlib.Omega.{arith}
 use mathlib.Core.Bool.{Bool, true, false, cond, not, ◌&&◌, ◌||◌, false≢true}
@@ -11,9 +14,6 @@ use lib.ListN.{length}
 use Rattle.laws.proofs.Pick.{by_bool}
 use Rattle.laws.proofs.Tests.{both}
 use Rattle.digits.specs.Digits.{six_digits}
-use Rattle.digits.specs.declared.Ident.{Ident}
-use Rattle.line.specs.declared.Judged.{Judged}
-use Rattle.line.specs.declared.Judged.TheVariants.{Accepted, Refused}
 use Rattle.line.specs.Codes.{is_w}
 use Rattle.line.specs.Line.{silent_of, ident_of, judge_of}
 use Rattle.receiver.specs.Receiver.{Receipt}
@@ -49,12 +49,12 @@ abbrev Named : Latest → Type 0
 Named no_line = 0 < 1
 Named (w_line silent ident) = ident_fits ident ≡ true
 
-named_decided : (m : Machine) (old : Latest) (silent : Bool) (ident : Ident) (j : Judged) → Tells ident j → Named old
+named_decided : (m : Machine) (old : Latest) (silent : Bool) (ident : Option ℕ) (j : Result Accepted Refusal) → Tells ident j → Named old
     → Named (latest_by (decided m silent ident j) old)
-named_decided m old silent ident (Refused n) t k = k
-named_decided m old silent ident (Accepted c n) t k =
-    by_bool (λ (o : Outcome). Named (latest_by o old)) (eqb (number m c) 0) _ _
-    (λ _. by_bool Named (is_w c) _ _ (λ _. t.named) (λ _. k)) (λ _. k)
+named_decided m old silent ident (Err r) t k = k
+named_decided m old silent ident (Ok a) t k =
+    by_bool (λ (o : Outcome). Named (latest_by o old)) (eqb (number m a.command) 0) _ _
+    (λ _. by_bool Named (is_w a.command) _ _ (λ _. t.named) (λ _. k)) (λ _. k)
 
 named_byte : (m : Machine) (old : Latest) (b : ℕ) (buffer : List ℕ) → Named old
     → Named (latest_by (outcome m b buffer) old)

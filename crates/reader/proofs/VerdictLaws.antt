@@ -1,4 +1,5 @@
 -- The numbers of U blocks, by the reader's test and by their ranges. Assumes nothing.
+use Rattle.std.proofs.Common.{Option, None}
 use Prim.Native.Nat.{ℕ, ◌≤◌, ◌<◌}
 use native.Mathlib.Omega.{arith}
 use mathlib.Core.Bool.{Bool, true, false, cond, false≢true}
@@ -6,8 +7,6 @@ use mathlib.Core.Path.{◌≡◌, refl, sym}
 use borrow.Author.Tests.{lt-ltb, le-ltb, le-leb, lt-leb, ne_eqb, ltb-true, ltb-false, eqb-true, eqb-false}
 use lib.Dec.{ltb, eqb}
 use Rattle.laws.proofs.Pick.{by_bool, by_lt}
-use Rattle.digits.specs.declared.Ident.{Ident}
-use Rattle.digits.specs.declared.Ident.TheVariants.{Absent}
 use Rattle.line.specs.Ranges.{is_within}
 use Rattle.line.proofs.Ranges.{within}
 use Rattle.host.specs.Writer.{is_absent}
@@ -21,10 +20,10 @@ turned_most n h =
     by_lt {A = ℕ} (λ (_ : ℕ). n ≤ 26) 17 n 0 0 (λ q. omega (arith, h q)) (λ (q : n ≤ 17). omega arith)
 
 -- The numbers of U, by the reader's test and by their ranges.
-pub is_verdict_lem : (n : ℕ) (ident : Ident) → VerdictFits n ident → is_verdict n ident ≡ true
+pub is_verdict_lem : (n : ℕ) (ident : Option ℕ) → VerdictFits n ident → is_verdict n ident ≡ true
 is_verdict_lem n ident f = when (eqb n 0) refl
   where
-    early : n < 8 → 4 ≤ n → Absent ≡ ident → is_verdict n ident ≡ true
+    early : n < 8 → 4 ≤ n → None ≡ ident → is_verdict n ident ≡ true
     early q h e =
         let z : (n ≡ 0 → ⊥) = λ (p : n ≡ 0). omega arith in
         let c : (n ≡ 26 → ⊥) = λ (p : n ≡ 26). omega arith in
@@ -37,7 +36,7 @@ is_verdict_lem n ident f = when (eqb n 0) refl
         (λ (l : n ≤ 17). let z : (n ≡ 0 → ⊥) = λ (p : n ≡ 0). omega arith in
         rw (ne_eqb n 0 z, le-leb 8 n q, le-leb))
 
-    own : (t : Bool) → ltb n 8 ≡ t → 4 ≤ n → (17 < n → n ≡ 26) → cond t Absent ident ≡ ident
+    own : (t : Bool) → ltb n 8 ≡ t → 4 ≤ n → (17 < n → n ≡ 26) → cond t None ident ≡ ident
         → is_verdict n ident ≡ true
     own true q h l e = early (ltb-true n 8 q) h e
     own false q h l e = late (ltb-false n 8 q) l
@@ -46,7 +45,7 @@ is_verdict_lem n ident f = when (eqb n 0) refl
     when true e = rw e
     when false e = let t = f (eqb-false n 0 e) in own (ltb n 8) refl t.low t.high t.own
 
-pub verdict_fits : (n : ℕ) (ident : Ident) → is_verdict n ident ≡ true → VerdictFits n ident
+pub verdict_fits : (n : ℕ) (ident : Option ℕ) → is_verdict n ident ≡ true → VerdictFits n ident
 verdict_fits n ident e above =
     by_bool If (eqb n 0) true _ (λ z _. absurd (above (eqb-true n 0 z)))
     (λ _. by_bool If (is_within n 8 17) true _ (λ q _. late q)
@@ -77,19 +76,3 @@ verdict_fits n ident e above =
           high = λ (p : 17 < n). absurd (omega arith);
           own = rw (lt-ltb n 8 m) (sym (absent_is ident none));
         }
-
--- A number over 26 is none.
-pub number_over : (n : ℕ) (ident : Ident) → 26 < n → is_verdict n ident ≡ false
-number_over n ident h =
-    let none : (n ≡ 0 → ⊥) = λ (p : n ≡ 0). omega arith in
-    let far : (n ≡ 26 → ⊥) = λ (p : n ≡ 26). omega arith in
-    let high : 17 < n = omega arith in
-    let above : 7 < n = omega arith in
-    rw (
-      ne_eqb n 0 none,
-      le-leb 8 n (omega arith),
-      lt-leb n 17 high,
-      ne_eqb n 26 far,
-      le-leb 4 n (omega arith),
-      lt-leb n 7 above,
-    )

@@ -1,12 +1,10 @@
 -- The blocks of the forms under Replies (paper 01, "Lines") with each field in its range ("Turned away" 20), and that
 -- the reader takes them and nothing else: `BlocksRead`, a promise of `read_block`.
-use Rattle.std.specs.Prelude.{ℕ, ◌≤◌, ◌<◌, Bool, true, false, List, [], ◌∷◌, ◌≡◌}
+use Rattle.line.specs.declared.Accepted.{Accepted}
+use Rattle.line.specs.declared.Refusal.{Refusal}
+use Rattle.std.specs.Prelude.{ℕ, ◌≤◌, ◌<◌, Bool, true, false, List, [], ◌∷◌, ◌≡◌, Option, Some, Result, Ok, Err}
 use Rattle.digits.specs.Digits.{end_byte, six_digits, top_bit}
 use Rattle.digits.specs.Characters.{digit_characters, is_one}
-use Rattle.digits.specs.declared.Ident.{Ident}
-use Rattle.digits.specs.declared.Ident.TheVariants.{Given}
-use Rattle.line.specs.declared.Judged.{Judged}
-use Rattle.line.specs.declared.Judged.TheVariants.{Accepted, Refused}
 use Rattle.line.specs.Codes.{letter_q, code}
 use Rattle.line.specs.Line.{judge_value}
 use Rattle.reply.specs.Reply.{
@@ -37,25 +35,25 @@ use Rattle.reader.specs.Reader.{
 -- ---- Each field in its range
 
 -- One digit that isn't C, and an identification that is absent or a character 0-9, A-F or a-f (`named`, below).
-pub record Framed (switch : ℕ) (ident : Ident) : Type 0 where
+pub record Framed (switch : ℕ) (ident : Option ℕ) : Type 0 where
   pub digit : switch < 16
   pub other : switch ≡ 12 → ⊥
   pub named : ident_fits ident ≡ true
 
 -- U has 0, 4 to 17 or 26; a turned-away line's identification from 8 on and none for 4 to 7.
-pub record Turned (n : ℕ) (ident : Ident) : Type 0 where
+pub record Turned (n : ℕ) (ident : Option ℕ) : Type 0 where
   pub low : 4 ≤ n
   pub high : 17 < n → n ≡ 26
   pub own : refusal_ident n ident ≡ ident
 
 -- Where the number is not 0.
-abbrev pub VerdictFits : ℕ → Ident → Type 0
+abbrev pub VerdictFits : ℕ → Option ℕ → Type 0
 VerdictFits n ident = (n ≡ 0 → ⊥) → Turned n ident
 
 -- A line that no number turns away.
-abbrev pub is_accepted : Judged → Bool
-is_accepted (Accepted c n) = true
-is_accepted (Refused n) = false
+abbrev pub is_accepted : Result Accepted Refusal → Bool
+is_accepted (Ok a) = true
+is_accepted (Err r) = false
 
 -- Other Q echo: the six digits of a line Q that is accepted, and whose code is of no reading (0-4, 6).
 pub record Echoes (n : ℕ) : Type 0 where
@@ -105,12 +103,12 @@ Spelt s (inputs switch w ident) = Says s (inputs switch w ident)
 -- The figures with another identification; 20 has none.
 abbrev pub renamed : Figures → ℕ → Figures
 renamed (refused n) x = refused n
-renamed (verdict switch n ident) x = verdict switch n (Given x)
-renamed (travelled switch k minus t ident) x = travelled switch k minus t (Given x)
-renamed (status switch v ident) x = status switch v (Given x)
-renamed (echo switch n ident) x = echo switch n (Given x)
-renamed (placed switch k z ident) x = placed switch k z (Given x)
-renamed (inputs switch w ident) x = inputs switch w (Given x)
+renamed (verdict switch n ident) x = verdict switch n (Some x)
+renamed (travelled switch k minus t ident) x = travelled switch k minus t (Some x)
+renamed (status switch v ident) x = status switch v (Some x)
+renamed (echo switch n ident) x = echo switch n (Some x)
+renamed (placed switch k z ident) x = placed switch k z (Some x)
+renamed (inputs switch w ident) x = inputs switch w (Some x)
 
 -- Ten bytes with x in the ninth place and 0D behind it.
 abbrev pub ten_with : ℕ → ℕ → ℕ → ℕ → ℕ → ℕ → ℕ → ℕ → ℕ → List ℕ
@@ -126,7 +124,7 @@ pub record BlocksRead : Type 0 where
   pub without : (s : List ℕ) → read_of s ≡ refused 20 → (f : Figures) → Says s f → ⊥
   pub others : (s : List ℕ) → ((f : Figures) → Says s f → ⊥) → read_of s ≡ refused 20
   -- paper 02, 7/14: a character is an identification exactly if it is one of the 22
-  pub named : (x : ℕ) → ident_fits (Given x) ≡ is_one x digit_characters
+  pub named : (x : ℕ) → ident_fits (Some x) ≡ is_one x digit_characters
   -- ten bytes are read alike with each of the 22, but for the identification that is told; with any other character
   -- they are 20
   pub alike : (l w a b c d e f x y : ℕ) → is_one x digit_characters ≡ true → is_one y digit_characters ≡ true

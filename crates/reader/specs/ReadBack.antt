@@ -1,8 +1,7 @@
 -- The round trip of replies (demand 2): the host side "reads every reply back to the figures it was made from". What
 -- the replies of a controller are made from (paper 01, "Lines", Replies), block by block, and `RepliesRead`, a promise
 -- of `read_block`.
-use Rattle.std.specs.Prelude.{ℕ, cond, List, [], ◌∷◌, ◌++◌, map, ◌≡◌, ltb}
-use Rattle.digits.specs.declared.Ident.{Ident}
+use Rattle.std.specs.Prelude.{ℕ, cond, List, [], ◌∷◌, ◌++◌, map, ◌≡◌, ltb, Option}
 use Rattle.line.specs.declared.command.Reading.{Reading}
 use Rattle.line.specs.declared.command.Reading.TheVariants as R
 use Rattle.line.specs.declared.command.Command.{Command}
@@ -17,20 +16,20 @@ use Rattle.machine.specs.Settle.{Latest, no_line, w_line, last_w, switch_of, is_
 use Rattle.reader.specs.Reader.{Figures, verdict, travelled, status, echo, placed, inputs, read_of}
 
 -- An axis's travel with the latest move's direction, its position; the status; the last tick's inputs w.
-abbrev pub travel_in : Machine → Ident → ℕ → Figures
+abbrev pub travel_in : Machine → Option ℕ → ℕ → Figures
 travel_in m ident k = travelled m.switch k (m.move.plan.minus k) (travel_of m k) ident
 
-abbrev pub position_in : Machine → Ident → ℕ → Figures
+abbrev pub position_in : Machine → Option ℕ → ℕ → Figures
 position_in m ident k = placed m.switch k (position_of m k) ident
 
-abbrev pub status_in : Machine → Ident → Figures
+abbrev pub status_in : Machine → Option ℕ → Figures
 status_in m ident = status m.switch (Stops.status m) ident
 
-abbrev pub inputs_in : Machine → ℕ → Ident → Figures
+abbrev pub inputs_in : Machine → ℕ → Option ℕ → Figures
 inputs_in m w ident = inputs m.switch w ident
 
 -- What the reply to a reading says; q 8 reads everything.
-abbrev pub said_for : Machine → ℕ → Reading → Ident → List Figures
+abbrev pub said_for : Machine → ℕ → Reading → Option ℕ → List Figures
 said_for m w (R.Travel k) ident = travel_in m ident k ∷ []
 said_for m w (R.Position k) ident = position_in m ident k ∷ []
 said_for m w R.Status ident = status_in m ident ∷ []
@@ -43,7 +42,7 @@ said_for m w R.Inputs ident = []
 
 -- What the reply to an accepted command with these six digits says. P: 0. Q: a reading, or the digits. q: a position,
 -- or everything. W: nothing, its block comes from a tick. Settings are P's up to C, those of the inputs Q's.
-abbrev pub said_to : Machine → ℕ → Command → ℕ → Ident → List Figures
+abbrev pub said_to : Machine → ℕ → Command → ℕ → Option ℕ → List Figures
 said_to m w (C.Distance k minus d) digits ident = verdict m.switch 0 ident ∷ []
 said_to m w (C.Set code v) digits ident =
     cond (ltb code 13) (verdict m.switch 0 ident ∷ []) (echo m.switch digits ident ∷ [])

@@ -5,10 +5,10 @@
 ghost use Rattle.std.specs.Prelude.{◌≡◌};
 ghost use Rattle.reader.specs.Blocks.{BlocksRead};
 ghost use Rattle.reader.specs.ReadBack.{RepliesRead};
-ghost use Rattle.reader.specs.Reader.{figures_of, digits_in, switch_in, ident_in, read_of};
+ghost use Rattle.reader.specs.Reader.{figures_of, ident_in, read_of};
 
 use crate::reading::Reading;
-use digits::{Digit, END, Ident, Number};
+use digits::{Digit, END};
 
 mod fields;
 pub mod reading;
@@ -16,69 +16,40 @@ pub mod reading;
 // The switch that is none.
 const NO_SWITCH: u8 = 12;
 
-// Six digits, letters in capitals.
-fn digits_in(letter: u8, switch: u8, number: Number, ident: Ident) -> Reading
-    ensures { figures_of result ≡ digits_in letter switch number ident }
-{
-    match number {
-        Number::NotDigits => Reading::NotBlock,
-        Number::Value { number: n, small } => {
-            if small {
-                return Reading::NotBlock;
-            }
-            fields::fields_in(letter, switch, n, ident)
-        }
-    }
-}
-
-// The switch digit, a capital and not C.
-fn switch_in(letter: u8, digit: Digit, number: Number, ident: Ident) -> Reading
-    ensures { figures_of result ≡ switch_in letter digit number ident }
-{
-    match digit {
-        Digit::Other => Reading::NotBlock,
-        Digit::Capital(v) => {
-            if v == NO_SWITCH {
-                return Reading::NotBlock;
-            }
-            digits_in(letter, v, number, ident)
-        }
-        Digit::Small(_) => Reading::NotBlock,
-    }
-}
-
 // The identification of a block of ten bytes.
-fn ident_in(s: &[u8]) -> Ident
+fn ident_in(s: &[u8]) -> Option<u8>
     ensures { result ≡ ident_in s.now }
 {
-    if s.len() == 10 {
-        return Ident::Given(s[8]);
-    }
-    Ident::Absent
+    if s.len() == 10 { Some(s[8]) } else { None }
 }
 
-// The bytes as one whole reply block, or 20. That every reply of a controller is read back to the figures it was made
-// from, and that 20 is exactly for bytes that are no block, stand here as promises.
-pub fn read_block(s: &[u8]) -> Reading
+// The bytes as one whole reply block; none where they are no block (20). That every reply of a controller is read back
+// to the figures it was made from, and that it is none exactly for bytes that are no block, stand here as promises.
+#[tactic(auto, using(crate::proofs::Promises::promised), unfolding(crate::specs::Reader::read_of))]
+pub fn read_block(s: &[u8]) -> Option<Reading>
     ensures result_value { figures_of result ≡ read_of s.now }
     ensures replies_read { RepliesRead }
     ensures blocks_read { BlocksRead }
 {
     let n = s.len();
-    if n < 9 {
-        return Reading::NotBlock;
-    }
-    if 10 < n {
-        return Reading::NotBlock;
-    }
-    if s[n - 1] != END {
-        return Reading::NotBlock;
+    if n < 9 || 10 < n || s[n - 1] != END {
+        return None;
     }
     let ident = ident_in(s);
     if !host::is_ident(ident) {
-        return Reading::NotBlock;
+        return None;
     }
-    let digit = digits::read_digit(s[1]);
-    let number = digits::read_six([s[2], s[3], s[4], s[5], s[6], s[7]]);
-    switch_in(s[0], digit, number, ident)
+    let Some(Digit::Capital(switch)) = digits::read_digit(s[1]) else {
+        return None;
+    };
+    let number = digits::read_six([s[2], s[3], s[4], s[5], s[6], s[7]])?;
+    if switch == NO_SWITCH || number.small {
+        return None;
+    }
+    let figure = fields::fields_in(s[0], number.value, ident)?;
+    Some(Reading {
+        switch,
+        ident,
+        figure,
+    })
 }

@@ -1,5 +1,6 @@
 -- No answer to a block is long: each part of it by its most bytes, the numbers in it being in their ranges.
 -- Assumes nothing.
+use Rattle.std.proofs.Common.{Option, None, Some}
 use Prim.Native.Nat.{ℕ, ◌+◌, ◌%◌, ◌≤◌, ◌<◌}
 use native.Mathlib.Omega.{arith}
 use mathlib.Core.Bool.{Bool, true, false, cond}
@@ -13,8 +14,6 @@ use Rattle.laws.specs.Axes.{is_minus}
 use Rattle.laws.specs.Bits.{bit}
 use Rattle.laws.proofs.Pick.{by_bool, by_eq}
 use Rattle.digits.specs.Digits.{end_byte, six_of}
-use Rattle.digits.specs.declared.Ident.{Ident}
-use Rattle.digits.specs.declared.Ident.TheVariants.{Absent, Given}
 use Rattle.line.specs.Codes.{code, second}
 use Rattle.receiver.specs.Receiver.{before}
 use Rattle.machine.specs.Calls.{chars}
@@ -60,16 +59,16 @@ Most n l = length l ≤ n
 switch_length : (s : ℕ) → length (switch_text s) ≤ 11
 switch_length s = by_bool (Most 11) (eqb s 0) _ _ (λ _. omega arith) (λ _. omega arith)
 
-ident_length : (i : Ident) → length (ident_text i) ≤ 7
-ident_length Absent = omega arith
-ident_length (Given c) = omega arith
+ident_length : (i : Option ℕ) → length (ident_text i) ≤ 7
+ident_length None = omega arith
+ident_length (Some c) = omega arith
 
-origin_length : (s : ℕ) (i : Ident) → length (origin_text s i) ≤ 18
+origin_length : (s : ℕ) (i : Option ℕ) → length (origin_text s i) ≤ 18
 origin_length s i = joined_length (switch_text s) (ident_text i) 11 7 (switch_length s) (ident_length i)
 
 -- ---- what it says
 
-verdict_length : (n : ℕ) (i : Ident) → VerdictFits n i → length (verdict_text n) ≤ 100
+verdict_length : (n : ℕ) (i : Option ℕ) → VerdictFits n i → length (verdict_text n) ≤ 100
 verdict_length n i f =
     by_eq (Most 100) n 0 (sentence_text 0) (turned_text n) (λ _. omega (arith, sentence_length 0))
     (λ (q : n ≡ 0 → ⊥). turned_length n (omega (arith, turned_most n (f q).high)))
@@ -156,7 +155,7 @@ inputs_length w = omega arith
 -- ---- all of it
 
 -- What a block says, and whose it is.
-owned : (l : List ℕ) (n s : ℕ) (i : Ident) → n ≤ 182 → length l ≤ n → length (l ++ origin_text s i) ≤ 200
+owned : (l : List ℕ) (n s : ℕ) (i : Option ℕ) → n ≤ 182 → length l ≤ n → length (l ++ origin_text s i) ≤ 200
 owned l n s i h k = omega (arith, h, joined_length l (origin_text s i) n 18 k (origin_length s i))
 
 figure_length : (s : List ℕ) (f : Figures) → Spelt s f → length (figure_text f) ≤ 200

@@ -1,3 +1,3 @@
-pub mod ReadoutLaws
 pub mod ReplyLaws
 pub mod Lengths
+pub mod Promises

@@ -1,5 +1,6 @@
 -- Every reply block is taken for one and told in words: a block's bytes before 0D begin with a letter and a switch
 -- digit, and are 8 or 9. Their first word has more than three characters. Assumes nothing.
+use Rattle.std.proofs.Common.{Option, None, Some}
 use Prim.Native.Nat.{ℕ, suc, ◌+◌, ◌/◌, ◌%◌, ◌≤◌, ◌<◌}
 use native.Mathlib.Omega.{arith}
 use mathlib.Core.Bool.{true, false, false≢true}
@@ -11,8 +12,6 @@ use lib.ListN.{length, take, length-append}
 use lib.Seq.{take-append_seam}
 use Rattle.laws.proofs.Pick.{by_lt}
 use Rattle.digits.specs.Digits.{digit_of, capital_of, six_of}
-use Rattle.digits.specs.declared.Ident.{Ident}
-use Rattle.digits.specs.declared.Ident.TheVariants.{Absent, Given}
 use Rattle.digits.proofs.Laws.{digit_capital}
 use Rattle.block.specs.Block.{block_of}
 use Rattle.line.specs.Line.{is_ident}
@@ -85,10 +84,10 @@ record Ended (s : List ℕ) : Type 0 where
   short : length line ≤ 9
   long : length (part 32 0 line) ≡ 3 → ⊥
 
-block_ended : (letter switch n : ℕ) (ident : Ident) → is_letter letter ≡ true → Framed switch ident
+block_ended : (letter switch n : ℕ) (ident : Option ℕ) → is_letter letter ≡ true → Framed switch ident
     → Ended (block_for switch letter n ident)
 unfolding block_of six_of before
-block_ended letter switch n Absent a f = record {
+block_ended letter switch n None a f = record {
   line = letter ∷ capital_of switch ∷ six_of n;
   whole = refl;
   first = block_first letter switch n (13 ∷ []) a;
@@ -96,7 +95,7 @@ block_ended letter switch n Absent a f = record {
   short = omega arith;
   long = four_long letter switch (n / 1048576 % 16) (n / 65536 % 16) _ a;
 }
-block_ended letter switch n (Given c) a f = record {
+block_ended letter switch n (Some c) a f = record {
   line = letter ∷ capital_of switch ∷ (six_of n ++ (c ∷ []));
   whole = refl;
   first = block_first letter switch n (c ∷ 13 ∷ []) a ∙ rw (ident_no_end c f.named);

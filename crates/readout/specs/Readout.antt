@@ -1,13 +1,11 @@
 -- Replies to words (docs/PROTOCOL.md, "From words"): a line that is one reply block, its line feed in the place of 0D,
 -- and what the desk prints to it.
-use Rattle.std.specs.Prelude.{ℕ, ◌%◌, Bool, true, false, cond, List, [], ◌∷◌, ◌++◌, ltb, eqb, ℤ, nat_abs, get_or}
+use Rattle.std.specs.Prelude.{ℕ, ◌%◌, Bool, true, false, cond, List, [], ◌∷◌, ◌++◌, ltb, eqb, ℤ, nat_abs, get_or, Option, None, Some}
 use Rattle.laws.specs.Axes.{is_minus}
 use Rattle.laws.specs.Bits.{bit}
 use Rattle.digits.specs.Digits.{end_byte, digit_of, capital_of, six_of}
 use Rattle.digits.specs.declared.Digit.{Digit}
-use Rattle.digits.specs.declared.Digit.TheVariants.{Other, Capital, Small}
-use Rattle.digits.specs.declared.Ident.{Ident}
-use Rattle.digits.specs.declared.Ident.TheVariants.{Absent, Given}
+use Rattle.digits.specs.declared.Digit.TheVariants.{Capital, Small}
 use Rattle.line.specs.Codes.{code, five, second}
 use Rattle.reply.specs.Reply.{letter_u, letter_s, letter_small_s, letter_r}
 use Rattle.machine.specs.Calls.{chars}
@@ -26,10 +24,10 @@ is_letter c =
     (eqb c letter_r)))
 
 -- A small letter is no switch digit.
-abbrev pub is_switch : Digit → Bool
-is_switch Other = false
-is_switch (Capital v) = true
-is_switch (Small v) = false
+abbrev pub is_switch : Option Digit → Bool
+is_switch None = false
+is_switch (Some (Capital v)) = true
+is_switch (Some (Small v)) = false
 
 abbrev pub is_block : List ℕ → Bool
 is_block l = cond (is_letter (get_or l 0 0)) (is_switch (digit_of (get_or l 1 0))) false
@@ -99,11 +97,11 @@ inputs_text n = chars "inputs " ++ six_of n
 abbrev pub switch_text : ℕ → List ℕ
 switch_text s = cond (eqb s 0) [] (chars " (switch " ++ (capital_of s ∷ chars ")"))
 
-abbrev pub ident_text : Ident → List ℕ
-ident_text Absent = []
-ident_text (Given c) = chars " (as " ++ (c ∷ chars ")")
+abbrev pub ident_text : Option ℕ → List ℕ
+ident_text None = []
+ident_text (Some c) = chars " (as " ++ (c ∷ chars ")")
 
-abbrev pub origin_text : ℕ → Ident → List ℕ
+abbrev pub origin_text : ℕ → Option ℕ → List ℕ
 origin_text s ident = switch_text s ++ ident_text ident
 
 -- ---- What the reader says, in words

@@ -10,51 +10,34 @@ use text::Text;
 fn start(text: Text, d: u32) -> Text
     ensures { result ≡ writes text (start_text d) }
 {
-    let word = text.characters(b"start ");
-    let master = word.decimal(d % 8);
+    let said = text.characters(b"start ").decimal(d % 8);
     if d < 8 {
-        return master;
+        said
+    } else {
+        said.characters(b" after dwell")
     }
-    master.characters(b" after dwell")
 }
 
 // An order in words, by its six digits.
 fn order(text: Text, n: u32) -> Text
     ensures { result ≡ writes text (order_text n) }
 {
-    let k = n / FIVE_DIGITS;
     let five = n % FIVE_DIGITS;
-    if k == 8 {
-        return start(text, five / FOUR_DIGITS);
+    match n / FIVE_DIGITS {
+        8 => start(text, five / FOUR_DIGITS),
+        9 => text.characters(b"stop"),
+        10 => text.characters(b"clear"),
+        11 => text.characters(b"reset"),
+        12 => text.characters(b"carry on"),
+        13 => text.characters(b"low ").six(five),
+        14 => text.characters(b"high ").six(five),
+        _ => text,
     }
-    if k == 9 {
-        return text.characters(b"stop");
-    }
-    if k == 10 {
-        return text.characters(b"clear");
-    }
-    if k == 11 {
-        return text.characters(b"reset");
-    }
-    if k == 12 {
-        return text.characters(b"carry on");
-    }
-    if k == 13 {
-        let low = text.characters(b"low ");
-        return low.six(five);
-    }
-    if k == 14 {
-        let high = text.characters(b"high ");
-        return high.six(five);
-    }
-    text
 }
 
 // S of an order.
 pub(crate) fn echo(text: Text, n: u32) -> Text
     ensures { result ≡ writes text (echo_text n) }
 {
-    let word = sentences::sentence(text, 0);
-    let mark = word.characters(b": ");
-    order(mark, n)
+    order(sentences::sentence(text, 0).characters(b": "), n)
 }

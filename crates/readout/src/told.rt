@@ -19,7 +19,6 @@ ghost use Rattle.readout.specs.Readout.{
   origin_text,
 };
 
-use digits::{Ident, TOP_BIT};
 use reply::{Position, Travel};
 use text::Text;
 
@@ -28,9 +27,10 @@ pub(crate) fn verdict(text: Text, number: u8) -> Text
     ensures { result ≡ writes text (verdict_text number) }
 {
     if number == 0 {
-        return sentences::sentence(text, 0);
+        sentences::sentence(text, 0)
+    } else {
+        sentences::turned_away(text, number)
     }
-    sentences::turned_away(text, number)
 }
 
 // The direction of a move.
@@ -38,19 +38,18 @@ fn direction(text: Text, minus: bool) -> Text
     ensures { result ≡ writes text (direction_text minus) }
 {
     if minus {
-        return text.characters(b" minus ");
+        text.characters(b" minus ")
+    } else {
+        text.characters(b" plus ")
     }
-    text.characters(b" plus ")
 }
 
 // S 0-4.
 pub(crate) fn travelled(text: Text, axis: u8, minus: bool, travel: Travel) -> Text
     ensures { result ≡ writes text (travel_text axis minus travel.0) }
 {
-    let word = text.characters(b"travel ");
-    let number = word.decimal(axis as u32);
-    let way = direction(number, minus);
-    way.decimal(travel.0)
+    let said = text.characters(b"travel ").decimal(axis as u32);
+    direction(said, minus).decimal(travel.0)
 }
 
 // Whether a move or a dwell runs.
@@ -58,12 +57,12 @@ fn motion(text: Text, status: u8) -> Text
     ensures { result ≡ writes text (motion_text status) }
 {
     if status / 2 % 2 == 1 {
-        return sentences::state(text, 2);
+        sentences::state(text, 2)
+    } else if status % 2 == 1 {
+        sentences::state(text, 1)
+    } else {
+        sentences::state(text, 0)
     }
-    if status % 2 == 1 {
-        return sentences::state(text, 1);
-    }
-    sentences::state(text, 0)
 }
 
 // A bit that is set, or nothing.
@@ -71,10 +70,10 @@ fn bit(text: Text, on: bool, place: usize) -> Text
     ensures { result ≡ writes text (bit_text on place) }
 {
     if on {
-        let mark = text.characters(b", ");
-        return sentences::state(mark, place);
+        sentences::state(text.characters(b", "), place)
+    } else {
+        text
     }
-    text
 }
 
 // The bits from 2 on.
@@ -92,40 +91,31 @@ fn bits(text: Text, status: u8) -> Text
 pub(crate) fn status(text: Text, status: u8) -> Text
     ensures { result ≡ writes text (status_text status) }
 {
-    let word = text.characters(b"status ");
-    let number = word.decimal(status as u32);
-    let mark = number.characters(b": ");
-    let moves = motion(mark, status);
-    bits(moves, status)
+    let said = text.characters(b"status ").decimal(status as u32);
+    bits(motion(said.characters(b": "), status), status)
 }
 
 // A position with its sign.
 fn signed(text: Text, p: Position) -> Text
     ensures { result ≡ writes text (sign_text (is_minus (position_of p)) (nat_abs (position_of p))) }
 {
-    let held = p.0;
-    if held < TOP_BIT {
-        return text.signed(true, TOP_BIT - held);
-    }
-    text.signed(false, held - TOP_BIT)
+    let pulses = p.signed();
+    text.signed(pulses < 0, pulses.unsigned_abs() as u32)
 }
 
 // s 0-4.
 pub(crate) fn placed(text: Text, axis: u8, position: Position) -> Text
     ensures { result ≡ writes text (position_text axis (position_of position)) }
 {
-    let word = text.characters(b"position ");
-    let number = word.decimal(axis as u32);
-    let space = number.characters(b" ");
-    signed(space, position)
+    let said = text.characters(b"position ").decimal(axis as u32);
+    signed(said.characters(b" "), position)
 }
 
 // R.
 pub(crate) fn inputs(text: Text, word: u32) -> Text
     ensures { result ≡ writes text (inputs_text word) }
 {
-    let said = text.characters(b"inputs ");
-    said.six(word)
+    text.characters(b"inputs ").six(word)
 }
 
 // The switch digit where it is not 0.
@@ -133,31 +123,27 @@ fn switch(text: Text, s: u8) -> Text
     ensures { result ≡ writes text (switch_text s) }
 {
     if s == 0 {
-        return text;
+        text
+    } else {
+        text.characters(b" (switch ")
+            .with(digits::capital(s))
+            .with(b')')
     }
-    let word = text.characters(b" (switch ");
-    let digit = word.with(digits::capital(s));
-    digit.with(41)
 }
 
 // The identification where there is one.
-fn name(text: Text, ident: Ident) -> Text
+fn name(text: Text, ident: Option<u8>) -> Text
     ensures { result ≡ writes text (ident_text ident) }
 {
     match ident {
-        Ident::Absent => text,
-        Ident::Given(c) => {
-            let word = text.characters(b" (as ");
-            let character = word.with(c);
-            character.with(41)
-        }
+        None => text,
+        Some(c) => text.characters(b" (as ").with(c).with(b')'),
     }
 }
 
 // Whose block it is.
-pub(crate) fn origin(text: Text, s: u8, ident: Ident) -> Text
+pub(crate) fn origin(text: Text, s: u8, ident: Option<u8>) -> Text
     ensures { result ≡ writes text (origin_text s ident) }
 {
-    let digit = switch(text, s);
-    name(digit, ident)
+    name(switch(text, s), ident)
 }

@@ -1,9 +1,12 @@
 -- The receiver against the characters received since the last 0D, however many: what it holds of them after one more,
 -- and at the line's end. Assumes nothing.
-use Prim.Native.Nat.{ℕ, suc, min, ◌+◌, ◌-◌, ◌≤◌, ◌<◌}
+use Rattle.std.specs.List.{fold}
+use Rattle.std.specs.List.{prefix_len}
+use Rattle.std.proofs.Common.{None}
+use Prim.Native.Nat.{ℕ, zero, suc, min, ◌+◌, ◌-◌, ◌≤◌, ◌<◌}
 use native.Mathlib.Numerals.{add-one}
 use native.Mathlib.Omega.{arith}
-use mathlib.Core.Bool.{Bool, true, false, cond}
+use mathlib.Core.Bool.{Bool, true, false, cond, not}
 use mathlib.Core.List.{List, [], ◌∷◌, ◌++◌, append-nil}
 use mathlib.Core.Path.{◌≡◌, refl, sym, ap, ◌∙◌}
 use lib.Dec.{eqb}
@@ -16,7 +19,6 @@ use Rattle.line.proofs.Laws.{too_long}
 use Rattle.receiver.specs.declared.Receiver.{Receiver}
 use Rattle.receiver.specs.declared.Gathered.{Gathered}
 use Rattle.receiver.specs.declared.Taken.{Taken}
-use Rattle.receiver.specs.declared.Heard.TheVariants.{Character, Line}
 use Rattle.receiver.specs.Receiver.{
   Receipt,
   heard_line,
@@ -33,6 +35,7 @@ use Rattle.receiver.specs.Receiver.{
   taken_of,
   push_all,
   gathered_of,
+  line_heard,
 }
 use Rattle.receiver.proofs.KeepLaws.{full_chars, full_count, room_chars, room_count}
 
@@ -60,15 +63,23 @@ all_full [] r h = refl
 all_full (b ∷ bs) r h =
     ap (λ (x : Receiver). push_all x bs) (sym (on_le 10 r.count r r _ h refl)) ∙ all_full bs r h
 
--- One more of them, and none left.
-pub all_next : (r : Receiver) (cs : List ℕ) (i : ℕ) → i < length cs
-    → push_all r (drop i cs) ≡ push_all (push_of r (get_or cs i 0)) (drop (i + 1) cs)
+-- From n on, n of them that fill the line, the others alter nothing.
+all_take : (n : ℕ) (cs : List ℕ) (r : Receiver) → 10 ≤ r.count + n → push_all r (take n cs) ≡ push_all r cs
 unfolding push_all
-all_next r cs i h = rw (drop-cons cs i 0 h, add-one i)
+all_take zero cs r h = sym (all_full cs r (omega (arith, h)))
+all_take (suc n) [] r h = refl
+all_take (suc n) (b ∷ bs) r h =
+    by_le (λ (x : Receiver). push_all x (take n bs) ≡ push_all x bs) 10 r.count _ _
+    (λ k. all_take n bs r (omega (arith, k)))
+    (λ k. all_take n bs _ (omega (arith, h)))
 
-pub all_end : (r : Receiver) (cs : List ℕ) (i : ℕ) → length cs ≤ i → push_all r (drop i cs) ≡ r
+folded : (r : Receiver) (bs : List ℕ) → fold push_of r bs ≡ push_all r bs
 unfolding push_all
-all_end r cs i h = rw (drop_of_length-le cs h)
+folded r [] = refl
+folded r (b ∷ bs) = folded (push_of r b) bs
+
+pub ten_folded : (r : Receiver) (cs : List ℕ) → fold push_of r (take 10 cs) ≡ push_all r cs
+ten_folded r cs = folded r (take 10 cs) ∙ all_take 10 cs r (omega arith)
 
 -- ---- the bytes before the first that a test marks
 
@@ -85,19 +96,19 @@ module _ (marks : ℕ → Bool) where
       let e : length (take (length (before marks bs)) bs) ≡ length (before marks bs) = ap length (before_take bs) in
       omega (arith, e, length-take (length (before marks bs)) bs)
 
-  module _ (bs : List ℕ) (i : ℕ) where
-    pub before_none : length bs ≤ i → length (before marks (drop i bs)) ≡ 0
-    unfolding before
-    before_none h = rw (drop_of_length-le bs h)
+  -- As many as the library counts.
+  pub length_before : (bs : List ℕ) → prefix_len (λ b. not (marks b)) bs ≡ length (before marks bs)
+  unfolding before
+  length_before [] = refl
+  length_before (b ∷ bs) = when (marks b) (length_before bs)
+    where
+      when : (t : Bool) → prefix_len (λ b. not (marks b)) bs ≡ length (before marks bs)
+          → cond (not t) (1 + prefix_len (λ b. not (marks b)) bs) 0 ≡ length (cond t [] (b ∷ before marks bs))
+      when true e = refl
+      when false e = rw e (omega arith)
 
-    pub before_mark_lem : i < length bs → marks (get_or bs i 0) ≡ true → length (before marks (drop i bs)) ≡ 0
-    unfolding before
-    before_mark_lem h e = rw (drop-cons bs i 0 h, e)
-
-    pub before_next : i < length bs → marks (get_or bs i 0) ≡ false
-        → length (before marks (drop i bs)) ≡ suc (length (before marks (drop (i + 1) bs)))
-    unfolding before
-    before_next h e = rw (drop-cons bs i 0 h, e, add-one i)
+pub length_before_end : (bs : List ℕ) → prefix_len (λ b. not (eqb b 13)) bs ≡ length (before_end bs)
+length_before_end bs = length_before (λ b. eqb b 13) bs
 
 -- Gathered on what is held, and so on every list of characters so held.
 pub gathered_told : {r : Gathered} (s : Receiver) (bs : List ℕ) → r ≡ gathered_of s bs
@@ -114,7 +125,7 @@ pub kept_holding : (l : List ℕ) → kept (holding l) ≡ take 10 l
 kept_holding l = take_at (take 10 l) (replicate (10 - length l) 0) (min 10 (length l)) (length-take 10 l)
 
 long_line : (l : List ℕ) → 10 < length l → heard_line (take 10 l) ≡ heard_line l
-long_line l h = λ i. Line (s i) (d i) (j i)
+long_line l h = λ i. line_heard (s i) (d i) (j i)
   where
     n : length (take 10 l) ≡ 10
     n = length-take 10 l ∙ omega arith
@@ -144,11 +155,11 @@ taken_holding l b = each (eqb b 13)
   where
     each : (t : Bool)
         → cond {A = Taken} t (record { next = holding []; heard = heard_of (holding l) })
-        (record { next = push_of (holding l) b; heard = Character })
+        (record { next = push_of (holding l) b; heard = None })
         ≡ held_taken (cond {A = Receipt} t (record { line = []; heard = heard_line l })
-        (record { line = l ++ (b ∷ []); heard = Character }))
+        (record { line = l ++ (b ∷ []); heard = None }))
     each true = λ i. record { next = holding []; heard = heard_holding l i }
-    each false = λ i. record { next = push_holding l b i; heard = Character }
+    each false = λ i. record { next = push_holding l b i; heard = None }
 
 -- The step on what is held is the step on every list of characters so held.
 pub both_told : {r : Taken} (s : Receiver) (b : ℕ) → r ≡ taken_of s b

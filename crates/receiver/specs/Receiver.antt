@@ -1,29 +1,34 @@
 -- The receiver of paper 01, "Lines": what a byte does to the characters received since the last 0D, and how those are
 -- held.
-use Rattle.std.specs.Prelude.{ℕ, ◌+◌, ◌-◌, min, Bool, cond, List, [], ◌∷◌, ◌++◌, ◌≡◌, leb, eqb, length, take, set, replicate}
+use Rattle.line.specs.declared.Accepted.{Accepted}
+use Rattle.line.specs.declared.Refusal.{Refusal}
+use Rattle.receiver.specs.declared.Line.{Line}
+use Rattle.std.specs.Prelude.{ℕ, ◌+◌, ◌-◌, min, Bool, cond, List, [], ◌∷◌, ◌++◌, ◌≡◌, leb, eqb, length, take, set, replicate, Option, None, Some, Result}
 use Rattle.digits.specs.Digits.{end_byte}
 use Rattle.line.specs.Line.{silent_of, ident_of, judge_of}
 use Rattle.receiver.specs.declared.Receiver.{Receiver}
 use Rattle.receiver.specs.declared.Taken.{Taken}
 use Rattle.receiver.specs.declared.Gathered.{Gathered}
-use Rattle.receiver.specs.declared.Heard.{Heard}
-use Rattle.receiver.specs.declared.Heard.TheVariants.{Character, Line}
+
+-- The end of a line: whether it is silent, its identification, and its judgement.
+abbrev pub line_heard : Bool → Option ℕ → Result Accepted Refusal → Option Line
+line_heard silent ident judged = Some (record { silent = silent; ident = ident; judged = judged })
 
 -- A line that has ended, by its characters.
-abbrev pub heard_line : List ℕ → Heard
-heard_line l = Line (silent_of l) (ident_of l) (judge_of l)
+abbrev pub heard_line : List ℕ → Option Line
+heard_line l = line_heard (silent_of l) (ident_of l) (judge_of l)
 
 -- The characters after a byte, and what comes of it.
 pub record Receipt : Type 0 where
   pub line : List ℕ
-  pub heard : Heard
+  pub heard : Option Line
 
 -- Byte 0D ends the line, and the next begins; every other byte is a character of it.
 abbrev pub receive : List ℕ → ℕ → Receipt
 receive l b =
     cond (eqb b end_byte)
     (record { line = []; heard = heard_line l })
-    (record { line = l ++ (b ∷ []); heard = Character })
+    (record { line = l ++ (b ∷ []); heard = None })
 
 -- ---- A stretch of bytes
 
@@ -58,7 +63,7 @@ Holding r P = (l : List ℕ) → holding l ≡ r → P l
 abbrev pub kept : Receiver → List ℕ
 kept r = take r.count r.chars
 
-abbrev pub heard_of : Receiver → Heard
+abbrev pub heard_of : Receiver → Option Line
 heard_of r = heard_line (kept r)
 
 -- One character more; from ten on the count stands still.
@@ -71,7 +76,7 @@ abbrev pub taken_of : Receiver → ℕ → Taken
 taken_of r b =
     cond (eqb b end_byte)
     (record { next = holding []; heard = heard_of r })
-    (record { next = push_of r b; heard = Character })
+    (record { next = push_of r b; heard = None })
 
 -- Characters one after another.
 unfoldable pub push_all : Receiver → List ℕ → Receiver

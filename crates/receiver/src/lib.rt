@@ -8,11 +8,12 @@ ghost use Rattle.std.specs.Prelude.{◌≡◌, [], length};
 ghost use Rattle.receiver.specs.Receiver.{holding, push_of, taken_of, receive, held_taken, heard_of, Holding};
 ghost use Rattle.receiver.specs.Receiver.{before_end, push_all, gathered_of, held_gathered};
 
-use digits::{END, Ident};
-use line::Judged;
+use digits::END;
+use line::{Accepted, Refusal};
 
 // The line that is being received: its first ten characters, zeros after them, and their count. Twelve bytes: eleven
-// would be copied in parts that overlap, and a tick would wait for them.
+// would be copied in parts that overlap, and a tick would wait for them. It lies so in the controller that firmware
+// holds (C interface).
 #[repr(C)]
 #[derive(Clone, Copy)]
 pub struct Receiver {
@@ -20,27 +21,23 @@ pub struct Receiver {
     count: u16,
 }
 
-// What comes of a byte.
-#[derive(Drop)]
-pub enum Heard {
-    // A character of a line.
-    Character,
-    // The end of a line: whether it is silent, its identification, and its judgement.
-    Line {
-        silent: bool,
-        ident: Ident,
-        judged: Judged,
-    },
+// The end of a line: whether it is silent, its identification, and its judgement.
+#[derive(Clone, Copy)]
+pub struct Line {
+    pub silent: bool,
+    pub ident: Option<u8>,
+    pub judged: Result<Accepted, Refusal>,
 }
 
-// The next state, and what comes of the byte.
-#[derive(Drop)]
+// The next state, and the line that the byte ended, if it did.
+#[derive(Clone, Copy)]
 pub struct Taken {
     pub next: Receiver,
-    pub heard: Heard,
+    pub heard: Option<Line>,
 }
 
 // The receiver after a stretch of characters, and how many they are.
+// Each of the three `Gathered` (here, of a controller, of a session) names what it holds.
 #[derive(Drop)]
 pub struct Gathered {
     pub next: Receiver,
@@ -48,17 +45,11 @@ pub struct Gathered {
 }
 
 // How many bytes stand before the first 0D.
+#[tactic(auto, using(crate::proofs::Laws::length_before_end))]
 fn before_end(bytes: &[u8]) -> usize
     ensures { result ≡ length (before_end bytes.now) }
 {
-    let mut i = 0;
-    while i < bytes.len() {
-        if bytes[i] == END {
-            return i;
-        }
-        i += 1;
-    }
-    i
+    bytes.iter().take_while(|&&b| b != END).count()
 }
 
 impl Receiver {
@@ -73,37 +64,21 @@ impl Receiver {
     }
 
     // One character more. From ten on the count stands still.
-    fn push(self, b: u8) -> Receiver
+    fn push(mut self, b: u8) -> Receiver
         ensures { result ≡ push_of self b }
     {
-        let count = self.count;
-        if 10 <= count {
-            return self;
+        if self.count < 10 {
+            self.chars[self.count as usize] = b;
+            self.count += 1;
         }
-        let mut chars = self.chars;
-        let at = count as usize;
-        chars[at] = b;
-        Receiver {
-            chars,
-            count: count + 1,
-        }
+        self
     }
 
-    // Characters one after another. An over-long line is not looked at to its end.
+    // Characters one after another. Ten fill the line: no more of them are looked at.
     fn push_all(self, cs: &[u8]) -> Receiver
         ensures { result ≡ push_all self cs.now }
     {
-        let mut next = self;
-        let mut i = 0;
-        while i < cs.len() {
-            if 10 <= next.count {
-                return next;
-            }
-            let more = next.push(cs[i]);
-            next = more;
-            i += 1;
-        }
-        next
+        cs.iter().take(10).fold(self, |line, &c| line.push(c))
     }
 
     // The bytes before the first 0D, at once: the same as `take` of each.
@@ -112,24 +87,22 @@ impl Receiver {
         ensures holding { Holding self (λ l. result ≡ held_gathered l bytes.now) }
     {
         let count = before_end(bytes);
-        let next = self.push_all(&bytes[..count]);
-        Gathered { next, count }
+        Gathered {
+            next: self.push_all(&bytes[..count]),
+            count,
+        }
     }
 
     // The line as it stands, judged.
-    fn heard(self) -> Heard
+    fn heard(self) -> Option<Line>
         ensures { result ≡ heard_of self }
     {
-        let cs = self.chars;
-        let count = self.count;
-        let silent = line::is_silent(cs, count);
-        let ident = line::ident(cs, count);
-        let judged = line::judge(cs, count);
-        Heard::Line {
-            silent,
-            ident,
-            judged,
-        }
+        let line = self.chars.get(..self.count as usize).unwrap_or(&self.chars);
+        Some(Line {
+            silent: line::is_silent(line),
+            ident: line::ident(line),
+            judged: line::judge(line),
+        })
     }
 
     // One byte: stated on what is held, and so for every list of characters so held, however long.
@@ -143,9 +116,6 @@ impl Receiver {
             return Taken { next, heard };
         }
         let next = self.push(b);
-        Taken {
-            next,
-            heard: Heard::Character,
-        }
+        Taken { next, heard: None }
     }
 }

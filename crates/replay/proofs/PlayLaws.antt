@@ -1,64 +1,29 @@
 -- Lists of calls: a call by its kind, so many ticks, and the whole list. What a call makes of what was played it makes
 -- after the calls so far. Assumes nothing.
-use Prim.Native.Nat.{ℕ, ◌+◌, ◌*◌, ◌%◌}
+use Prim.Native.Nat.{ℕ, ◌+◌, ◌*◌, ◌≤◌, ◌<◌}
+use native.Mathlib.Omega.{arith}
 use native.Mathlib.Numerals.{add-one}
-use mathlib.Core.Bool.{Bool, true, false, cond, ◌||◌}
-use mathlib.Core.List.{List, []}
-use mathlib.Core.Path.{◌≡◌, refl, sym, ap, ◌∙◌}
-use borrow.Author.Tests.{eq-eqb, ne_eqb, eqb-true}
-use lib.Dec.{ltb, leb, eqb}
-use lib.ListN.{length, get_or, replicate}
+use mathlib.Core.Bool.{Bool, true, false, cond}
+use mathlib.Core.List.{List, [], ◌++◌}
+use mathlib.Core.Path.{◌≡◌, refl, sym, subst, ap, ◌∙◌}
+use lib.Dec.{leb}
+use lib.ListN.{length, get_or, drop, get_or-append, length-append, length-drop}
+use lib.Seq.{get_or-drop, drop-drop, drop_at}
+use denote.Ref.{Bor}
+use Rattle.std.proofs.Common.{Option, None, Some}
+use Rattle.std.specs.declared.slice.ChunksExact.{ChunksExact}
+use Rattle.std.specs.Slice.Iter.{chunks_exact_rest, chunks_exact_size, chunks_exact_steps}
 use Rattle.laws.proofs.Pick.{by_bool}
-use Rattle.laws.proofs.Tests.{neither, either}
 use Rattle.block.specs.Block.{front_of}
 use Rattle.machine.specs.Steps.{TickAnswer, buffer_after_tick}
 use Rattle.machine.specs.Calls.{Call, run, state}
 use Rattle.machine.proofs.LentLaws.{same_lent}
 use Rattle.controller.specs.Held.{held}
 use Rattle.controller.specs.Reach.{Reachable}
+use Rattle.replay.specs.declared.Kind.{Kind}
 use Rattle.replay.specs.declared.play.Played.{Played}
-use Rattle.replay.specs.Replay.{
-  Seen,
-  seen,
-  begun,
-  tick_told,
-  ticked,
-  tick_lent,
-  ticks,
-  lent_after,
-  lent_ticks,
-  sent,
-  read,
-  called,
-  word_at,
-  seen_after,
-  held_seen,
-  Plays,
-  Lends,
-}
+use Rattle.replay.specs.Replay.{Seen, seen, begun, tick_told, ticked, tick_lent, ticks, lent_after, lent_ticks, kind_of, called_by, called, word_at, seen_after, held_seen, Plays, Lends}
 use Rattle.replay.specs.Digest.{mixed_bytes}
-
--- ---- A call by its kind
-
-module _ (s kind value count : ℕ) (x : Seen) where
-  -- Of ticks how many they are, how many zeros are lent, and whether these count.
-  pub call_ticks : (n room : ℕ) → eqb kind 0 || eqb kind 3 ≡ true → n ≡ cond (eqb kind 3) 1 count
-      → room ≡ cond (eqb kind 3) (count % 256) 120
-      → lent_ticks s n value (replicate room 0) (eqb kind 3) x ≡ called s kind value count x
-  unfolding called
-  call_ticks n room e p q =
-      (λ i. lent_ticks s (p i) value (replicate (q i) 0) (eqb kind 3) x)
-      ∙ either (eqb kind 0) (eqb kind 3) e
-      (λ f. rw (eqb-true kind 0 f)) (λ f g. rw (f, g))
-
-  pub call_byte : eqb kind 0 || eqb kind 3 ≡ false → kind ≡ 1
-      → sent s (value % 256) (ltb count 256) (replicate (count % 256) 0) x ≡ called s kind value count x
-  unfolding called
-  call_byte n e = let k = neither (eqb kind 0) (eqb kind 3) n in rw (k.0, k.1, eq-eqb kind 1 e)
-
-  pub call_read : eqb kind 0 || eqb kind 3 ≡ false → (kind ≡ 1 → ⊥) → read s x ≡ called s kind value count x
-  unfolding called
-  call_read n e = let k = neither (eqb kind 0) (eqb kind 3) n in rw (k.0, k.1, ne_eqb kind 1 e)
 
 -- ---- What was played, and a call more
 
@@ -137,6 +102,47 @@ lent_is s w n h d g ran x y whole r e l p q = λ i. record {
     when true = l
     when false = front_none x
 
+-- ---- A call's nine bytes
+
+-- They are cut off what is left of the list.
+module _ (bs rest c left : List ℕ) (j : ℕ) (e : rest ≡ drop (9 * j) bs) (f : rest ≡ c ++ left) (n : length c ≡ 9)
+    (b : 9 * j ≤ length bs) where
+  pub byte_of : (i k : ℕ) → i < 9 → k ≡ 9 * j + i → get_or c i 0 ≡ get_or bs k 0
+  byte_of i k h q =
+      sym (get_or-append c left 0 i (omega (arith, n)))
+      ∙ ap (λ (x : List ℕ). get_or x i 0) (sym f ∙ e)
+      ∙ get_or-drop (9 * j) bs i 0
+      ∙ ap (λ (m : ℕ). get_or bs m 0) (sym q)
+
+  pub word_of : (i : ℕ) → i < 6 → word_at c i ≡ word_at bs (9 * j + i)
+  unfolding word_at
+  word_of i h = λ t.
+      byte_of i (9 * j + i) (omega arith) refl t
+      + byte_of (i + 1) (9 * j + i + 1) (omega arith) (omega arith) t * 256
+      + byte_of (i + 2) (9 * j + i + 2) (omega arith) (omega arith) t * 65536
+      + byte_of (i + 3) (9 * j + i + 3) (omega arith) (omega arith) t * 16777216
+
+  pub left_is : left ≡ drop (9 * (j + 1)) bs
+  left_is =
+      let m : 9 * j + 9 ≡ 9 * (j + 1) = omega arith in
+      sym (drop_at c left 9 n)
+      ∙ ap (drop 9) (sym f ∙ e)
+      ∙ drop-drop 9 (9 * j) bs
+      ∙ ap (λ (k : ℕ). drop k bs) m
+
+  pub left_fits : 9 * (j + 1) ≤ length bs
+  left_fits =
+      omega (arith, n, b, ap length (sym e ∙ f), length-append c left, length-drop (9 * j) bs)
+
+-- What a step of the list's cutting gives.
+pub cut_of : (s t : ChunksExact ℕ) {r : Option (Bor (List ℕ))} {x : Bor (List ℕ)} → chunks_exact_steps s r t
+    → r ≡ Some x → (chunks_exact_rest s ≡ x.now ++ chunks_exact_rest t) × (length x.now ≡ chunks_exact_size s)
+cut_of s t {x} h e = (subst (λ (r : Option (Bor (List ℕ))). chunks_exact_steps s r t) e h).1
+
+pub end_of : (s t : ChunksExact ℕ) {r : Option (Bor (List ℕ))} → chunks_exact_steps s r t → r ≡ None
+    → length (chunks_exact_rest s) < chunks_exact_size s
+end_of s t h e = (subst (λ (r : Option (Bor (List ℕ))). chunks_exact_steps s r t) e h).1.0
+
 -- ---- The list
 
 module _ (s : ℕ) (bs : List ℕ) where
@@ -147,11 +153,12 @@ module _ (s : ℕ) (bs : List ℕ) where
   pub after_reach : (j : ℕ) (p : Played) → p ≡ held_seen s (seen_after s bs j) → Reachable p.controller
   after_reach j p e = reach s (seen_after s bs j) p e
 
-  pub after_next : (j : ℕ) (p next : Played) (v n : ℕ) → p ≡ held_seen s (seen_after s bs j) → v ≡ word_at bs (9 * j + 1)
-      → n ≡ word_at bs (9 * j + 5) → Plays p next (λ s. called s (get_or bs (9 * j) 0) v n)
+  pub after_next : (j : ℕ) (p next : Played) (k : Kind) (v n : ℕ) → p ≡ held_seen s (seen_after s bs j)
+      → k ≡ kind_of (get_or bs (9 * j) 0) → v ≡ word_at bs (9 * j + 1) → n ≡ word_at bs (9 * j + 5)
+      → Plays p next (λ s. called_by s k v n)
       → next ≡ held_seen s (seen_after s bs (j + 1))
-  unfolding seen_after
-  after_next j p next v n e a b g =
+  unfolding seen_after called
+  after_next j p next k v n e q a b g =
       rw (add-one j)
-      (stepped s (seen_after s bs j) p e (λ s. called s (get_or bs (9 * j) 0) v n) next g
-      ∙ (λ i. held_seen s (called s (get_or bs (9 * j) 0) (a i) (b i) (seen_after s bs j))))
+      (stepped s (seen_after s bs j) p e (λ s. called_by s k v n) next g
+      ∙ (λ i. held_seen s (called_by s (q i) (a i) (b i) (seen_after s bs j))))

@@ -10,6 +10,8 @@ use Rattle.machine.specs.Steps as steps
 use Rattle.machine.specs.Steps.{power_number, byte_step, tick_step, buffer_after, buffer_after_tick}
 use Rattle.machine.specs.Calls.{Call, byte, tick, state}
 use Rattle.controller.specs.Held.{held}
+use Rattle.replay.specs.declared.Kind.{Kind}
+use Rattle.replay.specs.declared.Kind.TheVariants as K
 use Rattle.replay.specs.declared.play.Played.{Played}
 use Rattle.replay.specs.Digest.{mixed, tick_code, mixed_bytes, mixed_entry, mixed_axes}
 
@@ -82,12 +84,21 @@ read switch x = seen x.calls (read_of (state switch x.calls) x.digest)
 -- A call by its kind: 0, `count` ticks with the input word `value` and 120 zeros lent, of which the blocks alone count;
 -- 3, one such tick with `count` modulo 256 zeros lent, all of which count; 1, the received byte `value` modulo 256 with
 -- `count` modulo 256 zeros lent, of which the reply alone counts from a `count` of 256 on; any other, the readings.
+abbrev pub kind_of : ℕ → Kind
+kind_of kind =
+    cond (eqb kind 0) K.Ticks
+    (cond (eqb kind 1) K.Byte
+    (cond (eqb kind 3) K.Tick
+    K.Readings))
+
+abbrev pub called_by : ℕ → Kind → ℕ → ℕ → Seen → Seen
+called_by switch K.Ticks value count x = lent_ticks switch count value (replicate 120 0) false x
+called_by switch K.Tick value count x = lent_ticks switch 1 value (replicate (count % 256) 0) true x
+called_by switch K.Byte value count x = sent switch (value % 256) (ltb count 256) (replicate (count % 256) 0) x
+called_by switch K.Readings value count x = read switch x
+
 unfoldable pub called : ℕ → ℕ → ℕ → ℕ → Seen → Seen
-called switch kind value count x =
-    cond (eqb kind 0) (lent_ticks switch count value (replicate 120 0) false x)
-    (cond (eqb kind 3) (lent_ticks switch 1 value (replicate (count % 256) 0) true x)
-    (cond (eqb kind 1) (sent switch (value % 256) (ltb count 256) (replicate (count % 256) 0) x)
-    (read switch x)))
+called switch kind value count x = called_by switch (kind_of kind) value count x
 
 -- The number of the four bytes from i on, the low one first.
 unfoldable pub word_at : List ℕ → ℕ → ℕ

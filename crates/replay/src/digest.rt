@@ -21,15 +21,14 @@ pub fn mix(h: u32, x: u32, y: u32, z: u32) -> u32
 
 // A pulse: 0, 1, and 2 for any other.
 fn code(p: i8) -> u32
-    ensures { (result ≡ pulse_code p) × (result ≤ 2) }
+    ensures value { result ≡ pulse_code p }
+    ensures upper_bound { result ≤ 2 }
 {
-    if p == 0 {
-        return 0;
+    match p {
+        0 => 0,
+        1 => 1,
+        _ => 2,
     }
-    if p == 1 {
-        return 1;
-    }
-    2
 }
 
 // The five pulses and the number of a tick as one number.
@@ -45,10 +44,8 @@ pub(crate) fn bytes(h: u32, buf: &[u8]) -> u32
     ensures { result ≡ mixed_bytes h buf.now }
 {
     let mut digest = h;
-    let mut i = 0;
-    while i < buf.len() {
-        digest = mix(digest, buf[i] as u32, 0, 0);
-        i += 1;
+    for &b in buf {
+        digest = mix(digest, b as u32, 0, 0);
     }
     digest
 }
@@ -66,25 +63,17 @@ fn told(h: u32, entry: Entry) -> u32
 {
     let low = (entry.ticks % 4294967296) as u32;
     let high = (entry.ticks / 4294967296) as u32;
-    let travels = entry.travels;
-    let a = raise(travels[0]);
-    let b = raise(travels[1]);
-    let c = raise(travels[2]);
-    let d = raise(travels[3]);
-    let e = raise(travels[4]);
+    let [a, b, c, d, e] = entry.travels;
     let counted = mix(h, low, high, entry.cause as u32);
-    let moved = mix(counted, a, b, c);
-    mix(moved, d, e, 0)
+    let moved = mix(counted, raise(a), raise(b), raise(c));
+    mix(moved, raise(d), raise(e), 0)
 }
 
 // The same where a move ended.
 pub(crate) fn entered(h: u32, ended: bool, entry: Entry) -> u32
     ensures { result ≡ cond ended (mixed_entry h entry) h }
 {
-    if ended {
-        return told(h, entry);
-    }
-    h
+    if ended { told(h, entry) } else { h }
 }
 
 // A digest with the travel and the position of each axis more.
@@ -92,12 +81,8 @@ pub(crate) fn axes(h: u32, travels: [Travel; 5], positions: [Position; 5]) -> u3
     ensures { result ≡ mixed_axes (travel_at travels) (place_at positions) h 5 }
 {
     let mut digest = h;
-    let mut k = 0;
-    while k < 5 {
-        let travel = travels[k];
-        let position = positions[k];
-        digest = mix(digest, travel.0, position.0, k as u32);
-        k += 1;
+    for (k, travel) in travels.iter().enumerate() {
+        digest = mix(digest, travel.0, positions[k].0, k as u32);
     }
     digest
 }

@@ -3,9 +3,9 @@
 // of the machine of the crate `machine` (specs/Replay.antt). Assumes nothing.
 #![tactic(auto)]
 
-ghost use Rattle.std.specs.Prelude.{◌+◌, ◌%◌, ◌≤◌, cond, ◌||◌, ◌≡◌, eqb, length};
+ghost use Rattle.std.specs.Prelude.{◌+◌, ◌≤◌, ◌≡◌, length};
 ghost use Rattle.controller.specs.Reach.{Reachable};
-ghost use Rattle.replay.specs.Replay.{held_seen, Plays, begun, called, word_at, replayed};
+ghost use Rattle.replay.specs.Replay.{held_seen, Plays, begun, kind_of, called_by, word_at, replayed};
 
 use crate::play::Played;
 use block::REPLY_ROOM;
@@ -21,31 +21,38 @@ const VALUE: usize = 1;
 
 const COUNT: usize = 5;
 
-// The kinds of call that alter a controller; every other kind reads it. `TICKS` has 120 bytes lent, `TICK` is one tick
-// with as many bytes lent as it says.
-const TICKS: u8 = 0;
+// What a call is.
+#[derive(Clone, Copy)]
+pub(crate) enum Kind {
+    // So many ticks, with 120 bytes lent.
+    Ticks,
+    // A received byte.
+    Byte,
+    // One tick, with as many bytes lent as its count says.
+    Tick,
+    // The readings.
+    Readings,
+}
 
-const BYTE: u8 = 1;
-
-const TICK: u8 = 3;
-
-// A byte as a number.
-fn wide(b: u8) -> u32
-    ensures { (result ≡ b) × (result ≤ 255) }
-{
-    b as u32
+impl From<u8> for Kind {
+    fn from(kind: u8) -> Kind
+        ensures { result ≡ kind_of kind }
+    {
+        match kind {
+            0 => Kind::Ticks,
+            1 => Kind::Byte,
+            3 => Kind::Tick,
+            _ => Kind::Readings,
+        }
+    }
 }
 
 // The number of four bytes, the low one first.
-fn word_at(calls: &[u8], at: usize) -> u32
-    requires { at + 4 ≤ length calls.now }
-    ensures { result ≡ word_at calls.now at }
+fn word_at(bytes: &[u8], at: usize) -> u32
+    requires { at + 4 ≤ length bytes.now }
+    ensures { result ≡ word_at bytes.now at }
 {
-    let low = wide(calls[at]);
-    let second = wide(calls[at + 1]);
-    let third = wide(calls[at + 2]);
-    let high = wide(calls[at + 3]);
-    low + second * 256 + third * 65536 + high * 16777216
+    u32::from_le_bytes([bytes[at], bytes[at + 1], bytes[at + 2], bytes[at + 3]])
 }
 
 // Power-on.
@@ -53,76 +60,43 @@ fn begin(switch: u8) -> Played
     ensures { result ≡ held_seen switch (begun switch) }
 {
     let on = controller::power_on(switch);
-    let digest = digest::mix(0, wide(on.number), 0, 0);
-    let controller = on.controller;
-    Played { controller, digest }
-}
-
-// So many ticks, or one: both are played in one place, so that the compiler can make the tick a part of it.
-fn is_ticks(kind: u8) -> bool
-    ensures { result ≡ eqb kind 0 || eqb kind 3 }
-{
-    if kind == TICKS {
-        return true;
+    Played {
+        controller: on.controller,
+        digest: digest::mix(0, on.number as u32, 0, 0),
     }
-    kind == TICK
 }
 
-// How many ticks.
-fn tick_count(kind: u8, count: u32) -> u32
-    ensures { result ≡ cond (eqb kind 3) 1 count }
-{
-    if kind == TICK {
-        return 1;
-    }
-    count
-}
-
-// How many zeros are lent to them.
-fn tick_room(kind: u8, count: u32) -> usize
-    ensures { (result ≡ cond (eqb kind 3) (count % 256) 120) × (result ≤ 255) }
-{
-    if kind == TICK {
-        return (count % 256) as usize;
-    }
-    REPLY_ROOM
-}
-
-// One call of the list.
-fn call(was: Played, kind: u8, value: u32, count: u32) -> Played
+// One call of the list. So many ticks, or one: both are played in one place, so that the compiler can make the tick a
+// part of it.
+fn call(was: Played, kind: Kind, value: u32, count: u32) -> Played
     requires { Reachable was.controller }
-    ensures { Plays was result (λ s. called s kind value count) }
+    ensures { Plays was result (λ s. called_by s kind value count) }
 {
-    if is_ticks(kind) {
-        let n = tick_count(kind, count);
-        let room = tick_room(kind, count);
-        return play::ticks(was, value, n, room, kind == TICK);
-    }
-    if kind == BYTE {
-        return play::send(
-            was,
-            (value % 256) as u8,
-            (count % 256) as usize,
-            count < 256,
-        );
-    }
-    play::read(was)
+    let (n, room, whole) = match kind {
+        Kind::Ticks => (count, REPLY_ROOM, false),
+        Kind::Tick => (1, (count % 256) as usize, true),
+        Kind::Byte => {
+            return play::send(
+                was,
+                (value % 256) as u8,
+                (count % 256) as usize,
+                count < 256,
+            );
+        }
+        Kind::Readings => return play::read(was),
+    };
+    play::ticks(was, value, n, room, whole)
 }
 
 // The digest of all answers to the calls, after power-on with the switch.
 pub fn temixohuel_replay(switch: u8, calls: &[u8]) -> u32
     ensures { result ≡ replayed switch calls.now }
 {
-    let n = calls.len() / CALL;
     let mut played = begin(switch);
-    let mut j = 0;
-    while j < n {
-        let at = CALL * j;
-        let value = word_at(calls, at + VALUE);
-        let count = word_at(calls, at + COUNT);
-        let next = call(played, calls[at], value, count);
-        played = next;
-        j += 1;
+    for bytes in calls.chunks_exact(CALL) {
+        let value = word_at(bytes, VALUE);
+        let count = word_at(bytes, COUNT);
+        played = call(played, Kind::from(bytes[0]), value, count);
     }
     played.digest
 }

@@ -22,8 +22,7 @@ fn with_block(h: u32, buf: &[u8], n: u8) -> u32
     if n == 0 {
         return h;
     }
-    let block = controller::front(buf, n as usize);
-    digest::bytes(h, block)
+    digest::bytes(h, controller::front(buf, n as usize))
 }
 
 // One tick with this buffer lent. What few ticks answer, block and entry, goes in first: the compiler then joins its
@@ -33,16 +32,14 @@ fn tick(was: Played, buf: &mut [u8], word: u32) -> Played
     ensures plays { Plays was result (λ s. ticked s word buf.old) }
     ensures lends { Lends was buf.new (λ s. tick_lent s word buf.old buf.old) }
 {
-    let before = was.controller;
-    let a = before.tick(buf, word);
+    let a = was.controller.tick(buf, word);
     let shown = with_block(was.digest, buf, a.length);
-    let entry = a.entry;
-    let entered = digest::entered(shown, a.ended, entry);
-    let pulses = a.pulses;
-    let code = digest::tick_code(pulses, a.number);
-    let digest = digest::mix(entered, a.first, a.second, code);
-    let controller = a.controller;
-    Played { controller, digest }
+    let entered = digest::entered(shown, a.ended, a.entry);
+    let code = digest::tick_code(a.pulses, a.number);
+    Played {
+        controller: a.controller,
+        digest: digest::mix(entered, a.first, a.second, code),
+    }
 }
 
 // So many ticks with one input word and one buffer. No other function makes ticks: the controller's tick has one
@@ -53,23 +50,22 @@ fn run(was: Played, buf: &mut [u8], word: u32, count: u32) -> Played
     ensures lends { Lends was buf.new (λ s. lent_after s count word buf.old) }
 {
     let mut played = was;
-    let mut i = 0;
-    while i < count {
-        let next = tick(played, buf, word);
-        played = next;
-        i += 1;
+    for _ in 0..count {
+        played = tick(played, buf, word);
     }
     played
 }
 
 // Of a buffer all bytes, or those of the reply alone.
+// Whether all count comes from the bytes of the call.
 fn part(buf: &[u8], n: usize, whole: bool) -> &[u8]
     ensures { result.now ≡ cond whole buf.now (front_of buf.now n) }
 {
     if whole {
-        return buf;
+        buf
+    } else {
+        controller::front(buf, n)
     }
-    controller::front(buf, n)
 }
 
 // So many ticks, all with this buffer lent. All bytes of the buffer count after the last of them, or none.
@@ -78,10 +74,11 @@ fn lend_ticks(was: Played, buf: &mut [u8], word: u32, count: u32, whole: bool) -
     ensures { Plays was result (λ s. lent_ticks s count word buf.old whole) }
 {
     let ran = run(was, buf, word, count);
-    let controller = ran.controller;
     let counted = part(buf, 0, whole);
-    let digest = digest::bytes(ran.digest, counted);
-    Played { controller, digest }
+    Played {
+        controller: ran.controller,
+        digest: digest::bytes(ran.digest, counted),
+    }
 }
 
 // So many ticks, with so many zeros lent.
@@ -100,14 +97,13 @@ fn lend(was: Played, buf: &mut [u8], b: u8, whole: bool) -> Played
     requires buf_len_bound { length buf.old ≤ 255 }
     ensures { Plays was result (λ s. sent s b whole buf.old) }
 {
-    let before = was.controller;
-    let a = before.byte(buf, b);
-    let length = a.length;
-    let answered = digest::mix(was.digest, length as u32, a.number as u32, 0);
-    let controller = a.controller;
-    let counted = part(buf, length, whole);
-    let digest = digest::bytes(answered, counted);
-    Played { controller, digest }
+    let a = was.controller.byte(buf, b);
+    let answered = digest::mix(was.digest, a.length as u32, a.number as u32, 0);
+    let counted = part(buf, a.length, whole);
+    Played {
+        controller: a.controller,
+        digest: digest::bytes(answered, counted),
+    }
 }
 
 // A received byte with so many zeros lent.

@@ -1,4 +1,3 @@
-pub mod Figures
 pub mod Replies
 pub mod BlockLaws
 pub mod Examples

@@ -1,13 +1,13 @@
 -- Laws of replies: what is written is the reply, its length, that a buffer of 120 bytes holds it, and that it depends
 -- on no more than what the command reads. Assumes nothing.
+use Rattle.std.proofs.Common.{Option}
 use Prim.Native.Nat.{ℕ, ◌≤◌, ◌<◌}
 use mathlib.Core.Bool.{true}
 use mathlib.Core.List.{List, [], ◌∷◌}
-use mathlib.Core.Path.{◌≡◌, refl, sym, ap, ◌∙◌}
+use mathlib.Core.Path.{◌≡◌, refl, ap, ◌∙◌}
 use native.Mathlib.Omega.{arith}
 use lib.Dec.{lit<}
 use lib.ListN.{length}
-use Rattle.digits.specs.declared.Ident.{Ident}
 use Rattle.block.specs.Block.{row_of, over, laid, laid_length}
 use Rattle.block.proofs.Blocks.{block_least, block_most, row_most}
 use Rattle.block.proofs.Buffers.{laid_over, laid_over_length, over_nil}
@@ -40,53 +40,20 @@ use Rattle.reply.specs.Reply.{
 
 -- ---- what is written
 
--- s was laid into d, and s is r.
-pub written : {s r : List ℕ} (d : List ℕ) {n : ℕ} {buf : List ℕ} → s ≡ r → n ≡ laid_length 0 s d → buf ≡ laid 0 s d
-    → (n ≡ laid_length 0 r d) × (buf ≡ laid 0 r d)
-written d e p q = (p ∙ ap (λ (x : List ℕ). laid_length 0 x d) e, q ∙ ap (λ (x : List ℕ). laid 0 x d) e)
-
 -- Nothing was laid into d.
-pub nothing_laid : (d : List ℕ) → (0 ≡ laid_length 0 [] d) × (d ≡ laid 0 [] d)
-nothing_laid d = (
-  sym (laid_over_length [] d (omega arith)),
-  sym (laid_over [] d (omega arith) ∙ over_nil d),
-)
-
-pub one_block : (t : Told) (c : Command) (digits : ℕ) (ident : Ident) (letter number : ℕ)
-    → One letter number ≡ answer_of t c digits → block_for t.switch letter number ident ≡ reply_of t c digits ident
-unfolding reply_of
-one_block t c digits ident letter number e = ap (λ (a : Answer). bytes_of t a ident) e
-
-pub twelve_blocks : (t : Told) (c : Command) (digits : ℕ) (ident : Ident) {ns : List ℕ} → ns ≡ numbers t
-    → All ≡ answer_of t c digits → row_of 12 letters ns t.switch ident ≡ reply_of t c digits ident
-unfolding reply_of
-twelve_blocks t c digits ident p e =
-    ap (λ (x : List ℕ). row_of 12 letters x t.switch ident) p ∙ ap (λ (a : Answer). bytes_of t a ident) e
-
-pub no_block : (t : Told) (c : Command) (digits : ℕ) (ident : Ident) → Later ≡ answer_of t c digits
-    → [] ≡ reply_of t c digits ident
-unfolding reply_of
-no_block t c digits ident e = ap (λ (a : Answer). bytes_of t a ident) e
-
-pub inputs_block : (switch w : ℕ) (ident : Ident) → block_for switch letter_r w ident ≡ inputs_of switch w ident
-unfolding inputs_of
-inputs_block switch w ident = refl
-
-pub refusal_block : (switch n : ℕ) (ident shown : Ident) → shown ≡ refusal_ident n ident
-    → block_for switch letter_u n shown ≡ refusal_of switch n ident
-unfolding refusal_of
-refusal_block switch n ident shown e = ap (λ (x : Ident). block_for switch letter_u n x) e
+pub nothing_laid : (d : List ℕ) → laid 0 [] d ≡ d
+nothing_laid d = laid_over [] d (omega arith) ∙ over_nil d
 
 -- ---- lengths
 
-module _ (t : Told) (ident : Ident) where
+module _ (t : Told) (ident : Option ℕ) where
   bytes_most : (a : Answer) → length (bytes_of t a ident) ≤ 120
   bytes_most (One letter n) =
       omega (arith, block_most (record { letter = letter; switch = t.switch; number = n; ident = ident }))
   bytes_most All = row_most letters (numbers t) t.switch ident
   bytes_most Later = omega arith
 
-module _ (t : Told) (c : Command) (digits : ℕ) (ident : Ident) where
+module _ (t : Told) (c : Command) (digits : ℕ) (ident : Option ℕ) where
   pub reply_most : length (reply_of t c digits ident) ≤ 120
   unfolding reply_of
   reply_most = bytes_most t ident (answer_of t c digits)
@@ -100,7 +67,7 @@ module _ (t : Told) (c : Command) (digits : ℕ) (ident : Ident) where
       → laid_length 0 (reply_of t c digits ident) d ≡ length (reply_of t c digits ident)
   reply_length d h = laid_over_length (reply_of t c digits ident) d (omega (arith, reply_most))
 
-module _ (switch n : ℕ) (ident : Ident) where
+module _ (switch n : ℕ) (ident : Option ℕ) where
   pub refusal_least : 9 ≤ length (refusal_of switch n ident)
   unfolding refusal_of
   refusal_least =
@@ -119,7 +86,7 @@ module _ (switch n : ℕ) (ident : Ident) where
       → laid_length 0 (refusal_of switch n ident) d ≡ length (refusal_of switch n ident)
   refusal_length d h = laid_over_length (refusal_of switch n ident) d (omega (arith, refusal_most))
 
-module _ (switch w : ℕ) (ident : Ident) where
+module _ (switch w : ℕ) (ident : Option ℕ) where
   pub inputs_most : length (inputs_of switch w ident) ≤ 10
   unfolding inputs_of
   inputs_most = block_most (record { letter = letter_r; switch = switch; number = w; ident = ident })
@@ -161,12 +128,12 @@ module _ (t u : Told) (switch : t.switch ≡ u.switch) (travels : (k : ℕ) → 
       ∷ coded 0 (positions 0 (lit< tt) i) ∷ coded 1 (positions 1 (lit< tt) i) ∷ coded 2 (positions 2 (lit< tt) i)
       ∷ coded 3 (positions 3 (lit< tt) i) ∷ coded 4 (positions 4 (lit< tt) i) ∷ inputs i ∷ []
 
-  same_bytes : (a : Answer) (ident : Ident) → bytes_of t a ident ≡ bytes_of u a ident
+  same_bytes : (a : Answer) (ident : Option ℕ) → bytes_of t a ident ≡ bytes_of u a ident
   same_bytes (One letter n) ident = ap (λ (s : ℕ). block_for s letter n ident) switch
   same_bytes All ident = λ i. row_of 12 letters (same_numbers i) (switch i) ident
   same_bytes Later ident = refl
 
-  pub reply_same : (c : Command) → fits c ≡ true → (digits : ℕ) (ident : Ident)
+  pub reply_same : (c : Command) → fits c ≡ true → (digits : ℕ) (ident : Option ℕ)
       → reply_of t c digits ident ≡ reply_of u c digits ident
   unfolding reply_of
   reply_same c e digits ident =

@@ -1,10 +1,8 @@
 -- The replies (paper 01, "Lines", Replies): what each accepted command answers, from the figures that a controller can
 -- tell, and how a travel and a position are held.
-use Rattle.std.specs.Prelude.{ℕ, ◌+◌, ◌-◌, ◌*◌, ◌%◌, Bool, false, cond, List, [], ◌∷◌, ltb, ℤ, pos, negsuc, ◌+ℤ◌, get_or}
+use Rattle.std.specs.Prelude.{ℕ, ◌+◌, ◌-◌, ◌*◌, ◌%◌, Bool, false, cond, List, [], ◌∷◌, ltb, ℤ, pos, negsuc, ◌+ℤ◌, get_or, Option, None}
 use Rattle.laws.specs.Bits.{weight}
 use Rattle.digits.specs.Digits.{five_digits, top_bit}
-use Rattle.digits.specs.declared.Ident.{Ident}
-use Rattle.digits.specs.declared.Ident.TheVariants.{Absent}
 use Rattle.block.specs.Block.{block_of, row_of}
 use Rattle.line.specs.declared.command.Command.{Command}
 use Rattle.line.specs.declared.command.Command.TheVariants as C
@@ -42,7 +40,7 @@ abbrev pub letter_r : ℕ
 letter_r = 82
 
 -- One block: its letter, the switch, the digits, the identification.
-abbrev pub block_for : ℕ → ℕ → ℕ → Ident → List ℕ
+abbrev pub block_for : ℕ → ℕ → ℕ → Option ℕ → List ℕ
 block_for switch letter digits ident =
     block_of (record { letter = letter; switch = switch; number = digits; ident = ident })
 
@@ -83,24 +81,24 @@ answer_of t (C.Outputs v) digits = Later
 answer_of t (C.Read r) digits = reading_of t r
 
 -- The bytes of an answer.
-abbrev pub bytes_of : Told → Answer → Ident → List ℕ
+abbrev pub bytes_of : Told → Answer → Option ℕ → List ℕ
 bytes_of t (One letter number) ident = block_for t.switch letter number ident
 bytes_of t All ident = row_of 12 letters (numbers t) t.switch ident
 bytes_of t Later ident = []
 
 -- The reply to a command with these six digits and this identification.
-unfoldable pub reply_of : Told → Command → ℕ → Ident → List ℕ
+unfoldable pub reply_of : Told → Command → ℕ → Option ℕ → List ℕ
 reply_of t c digits ident = bytes_of t (answer_of t c digits) ident
 
 -- The block of a W line: R with the inputs (paper 02, 3/14: those of the 2,500th tick after it).
-unfoldable pub inputs_of : ℕ → ℕ → Ident → List ℕ
+unfoldable pub inputs_of : ℕ → ℕ → Option ℕ → List ℕ
 inputs_of switch inputs ident = block_for switch letter_r inputs ident
 
 -- A turned-away line answers U 0000nn, nn its number, with the line's identification from 8 on and none for 4 to 7.
-abbrev pub refusal_ident : ℕ → Ident → Ident
-refusal_ident n ident = cond (ltb n 8) Absent ident
+abbrev pub refusal_ident : ℕ → Option ℕ → Option ℕ
+refusal_ident n ident = cond (ltb n 8) None ident
 
-unfoldable pub refusal_of : ℕ → ℕ → Ident → List ℕ
+unfoldable pub refusal_of : ℕ → ℕ → Option ℕ → List ℕ
 refusal_of switch n ident = block_for switch letter_u n (refusal_ident n ident)
 
 -- The five digits of a travel: the minus bit, then 19 bits.

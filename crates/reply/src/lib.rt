@@ -10,7 +10,6 @@ ghost use Rattle.reply.specs.Reply.{
   reading_of,
   answer_of,
   reply_of,
-  refusal_ident,
   refusal_of,
   inputs_of,
 };
@@ -18,7 +17,6 @@ ghost use Rattle.reply.specs.Reply.{
 use crate::numbers::{all_numbers, position_number, status_number, travel_number};
 pub use crate::readings::{Position, Readings, Travel};
 use block::Block;
-use digits::Ident;
 use line::command::{Command, Reading};
 
 mod numbers;
@@ -58,40 +56,28 @@ fn answer_to(readings: Readings, command: Command, digits: u32) -> Answer
     ensures { result ≡ answer_of (told_by readings) command digits }
 {
     match command {
-        Command::Distance {
-            axis: _,
-            minus: _,
-            length: _,
-        } => Answer::One(b'U', 0),
-        Command::Set { code, value: _ } => {
-            if code < ECHOED {
-                return Answer::One(b'U', 0);
-            }
-            Answer::One(b'S', digits)
-        }
-        Command::Start {
-            master: _,
-            waits: _,
-        } => Answer::One(b'S', digits),
-        Command::Order(_) => Answer::One(b'S', digits),
+        Command::Distance { .. } => Answer::One(b'U', 0),
+        Command::Set { code, .. } if code < ECHOED => Answer::One(b'U', 0),
+        Command::Set { .. } => Answer::One(b'S', digits),
+        Command::Start { .. } | Command::Order(_) => Answer::One(b'S', digits),
         Command::Outputs(_) => Answer::Later,
         Command::Read(reading) => reading_answer(readings, reading),
     }
 }
 
 // The reply to an accepted command with these six digits, and its length: nothing and 0 where it has no room.
+#[tactic(auto, using(crate::proofs::Replies::nothing_laid), unfolding(crate::specs::Reply::reply_of))]
 pub fn write_reply(
     buf: &mut [u8],
     readings: Readings,
     command: Command,
     digits: u32,
-    ident: Ident,
+    ident: Option<u8>,
 ) -> usize
     ensures value { result ≡ laid_length 0 (reply_of (told_by readings) command digits ident) buf.old }
     ensures buf_after { buf.new ≡ laid 0 (reply_of (told_by readings) command digits ident) buf.old }
 {
-    let answer = answer_to(readings, command, digits);
-    match answer {
+    match answer_to(readings, command, digits) {
         Answer::One(letter, number) => {
             let block = Block {
                 letter,
@@ -102,16 +88,17 @@ pub fn write_reply(
             block::write_block(buf, 0, block)
         }
         Answer::All => {
-            let letters = *b"SSSSSSsssssR";
             let numbers = all_numbers(readings);
-            block::write_twelve(buf, letters, numbers, readings.switch, ident)
+            block::write_twelve(buf, *b"SSSSSSsssssR", numbers, readings.switch, ident)
         }
         Answer::Later => 0,
     }
 }
 
 // The block of a W line, with these inputs, and its length: nothing and 0 where it has no room.
-pub fn write_inputs(buf: &mut [u8], switch: u8, inputs: u32, ident: Ident) -> usize
+// The letter and the number of each block stand beside the call of the one writer.
+#[tactic(auto, unfolding(crate::specs::Reply::inputs_of))]
+pub fn write_inputs(buf: &mut [u8], switch: u8, inputs: u32, ident: Option<u8>) -> usize
     ensures value { result ≡ laid_length 0 (inputs_of switch inputs ident) buf.old }
     ensures buf_after { buf.new ≡ laid 0 (inputs_of switch inputs ident) buf.old }
 {
@@ -124,27 +111,17 @@ pub fn write_inputs(buf: &mut [u8], switch: u8, inputs: u32, ident: Ident) -> us
     block::write_block(buf, 0, block)
 }
 
-// The identification that a turned-away line is answered with.
-fn refusal_ident(number: u8, ident: Ident) -> Ident
-    ensures { result ≡ refusal_ident number ident }
-{
-    if number < WITH_IDENT {
-        return Ident::Absent;
-    }
-    ident
-}
-
-// The reply to a line turned away by this number.
-pub fn write_refusal(buf: &mut [u8], switch: u8, number: u8, ident: Ident) -> usize
+// The reply to a line turned away by this number, with its identification from 8 on.
+#[tactic(auto, unfolding(crate::specs::Reply::refusal_of))]
+pub fn write_refusal(buf: &mut [u8], switch: u8, number: u8, ident: Option<u8>) -> usize
     ensures value { result ≡ laid_length 0 (refusal_of switch number ident) buf.old }
     ensures buf_after { buf.new ≡ laid 0 (refusal_of switch number ident) buf.old }
 {
-    let shown = refusal_ident(number, ident);
     let block = Block {
         letter: b'U',
         switch,
-        number: number as u32,
-        ident: shown,
+        number: u32::from(number),
+        ident: ident.filter(|_| number >= WITH_IDENT),
     };
     block::write_block(buf, 0, block)
 }

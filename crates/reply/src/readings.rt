@@ -19,12 +19,12 @@ impl Position {
     pub fn signed(self) -> i64
         ensures { result ≡ position_of self }
     {
-        let held = self.0;
-        held as i64 - TOP_BIT as i64
+        i64::from(self.0) - i64::from(TOP_BIT)
     }
 }
 
-// What replies are made from.
+// What replies are made from. Three arrays, and not five of one struct: the controller holds them so, in its `repr(C)`
+// structs, whose layout stays, and hands them on whole.
 #[derive(Clone, Copy)]
 pub struct Readings {
     pub travels: [Travel; 5],

@@ -1,27 +1,26 @@
 -- The examples of docs/PROTOCOL.md, "A dose on screen first", computed: they tie the text on screen and the form of a
 -- line to the page, whatever the code and these specs have in common.
-use Rattle.std.specs.Prelude.{ℕ, List, [], ◌∷◌, ◌≡◌, pos}
+use Rattle.std.specs.Prelude.{ℕ, List, [], ◌∷◌, ◌≡◌, pos, None}
 use Rattle.laws.specs.Axes.{each}
 use Rattle.machine.specs.Calls.{chars}
 use Rattle.sentences.specs.Sentences.{rows}
 use Rattle.reply.specs.declared.readings.Travel.{Travel}
 use Rattle.trial.specs.declared.Trial.{Trial}
-use Rattle.screen.specs.declared.asked.Asked.TheVariants as A
-use Rattle.screen.specs.Asked.{asked_of}
+use Rattle.screen.specs.Asked.{asking, asked_of}
 use Rattle.screen.specs.Screen.{question_text, screen_text}
 
 -- ---- Lines that begin with D
 
 pub record Forms : Type 0 where
-  pub plain : asked_of (chars "D 0 1000000 000000") ≡ A.Trial 0 1000000 0
-  pub with_word : asked_of (chars "D 4 0 002aFF") ≡ A.Trial 4 0 11007
+  pub plain : asked_of (chars "D 0 1000000 000000") ≡ asking 0 1000000 0
+  pub with_word : asked_of (chars "D 4 0 002aFF") ≡ asking 4 0 11007
   -- what a trial turns away has the form all the same
-  pub large : asked_of (chars "D 5 1000001 1000000") ≡ A.Trial 5 1000001 16777216
-  pub no_word : asked_of (chars "D 0 1000000") ≡ A.Malformed
-  pub two_spaces : asked_of (chars "D  0 1000000 000000") ≡ A.Malformed
-  pub no_letter : asked_of (chars "DD 0 1000000 000000") ≡ A.Malformed
-  pub no_number : asked_of (chars "D 0 -1 000000") ≡ A.Malformed
-  pub no_decimal : asked_of (chars "D A 1000000 000000") ≡ A.Malformed
+  pub large : asked_of (chars "D 5 1000001 1000000") ≡ asking 5 1000001 16777216
+  pub no_word : asked_of (chars "D 0 1000000") ≡ None
+  pub two_spaces : asked_of (chars "D  0 1000000 000000") ≡ None
+  pub no_letter : asked_of (chars "DD 0 1000000 000000") ≡ None
+  pub no_number : asked_of (chars "D 0 -1 000000") ≡ None
+  pub no_decimal : asked_of (chars "D A 1000000 000000") ≡ None
 
 -- ---- Screens
 

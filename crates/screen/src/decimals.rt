@@ -16,8 +16,8 @@ const SECOND: u64 = 1000000;
 fn pair(text: Text, n: u32) -> Text
     ensures { result ≡ writes text (pair_of n) }
 {
-    let tens = text.with(48 + (n / 10 % 10) as u8);
-    tens.with(48 + (n % 10) as u8)
+    text.with(b'0' + (n / 10 % 10) as u8)
+        .with(b'0' + (n % 10) as u8)
 }
 
 // Six digits of a number, a point before them.
@@ -43,7 +43,5 @@ pub(crate) fn time(text: Text, n: u32) -> Text
 pub(crate) fn share(text: Text, h: u32) -> Text
     ensures { result ≡ writes text (share_text h) }
 {
-    let whole = text.decimal(h / 100);
-    let point = whole.characters(b".");
-    pair(point, h)
+    pair(text.decimal(h / 100).characters(b"."), h)
 }

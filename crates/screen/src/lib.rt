@@ -6,7 +6,7 @@
 ghost use Rattle.std.specs.Prelude.{◌≤◌, ◌≡◌, length};
 ghost use Rattle.controller.specs.Reach.{Reachable, Made};
 ghost use Rattle.text.specs.Text.{holding, writes};
-ghost use Rattle.screen.specs.Answer.{shown_for, answer_of};
+ghost use Rattle.screen.specs.Answer.{answer_of};
 ghost use Rattle.screen.specs.Page.{Forms, Screens};
 ghost use Rattle.screen.specs.Promises.{Whole, Shares, Times};
 ghost use Rattle.screen.specs.Screen.{question_text, six_lines, screen_text};
@@ -25,8 +25,7 @@ mod shares;
 fn question() -> Text
     ensures { result ≡ holding question_text }
 {
-    let text = Text::new();
-    text.characters(b"? D 0 1000000 000000\n")
+    Text::new().characters(b"? D 0 1000000 000000\n")
 }
 
 // The line of the end, and a line for each wine.
@@ -44,31 +43,10 @@ fn screen(trial: Trial, master: u32, ticks: u32) -> Text
     ensures whole { Whole trial master ticks }
 {
     let text = Text::new();
-    let number = trial.number;
-    if number == 0 {
+    if trial.number == 0 {
         return six_lines(text, trial, master, ticks);
     }
-    let told = sentences::turned_away(text, number);
-    told.with(FEED)
-}
-
-// What is printed for what a line asks.
-fn shown_for(c: Controller, asked: Asked) -> Text
-    requires { Reachable c }
-    ensures made { Made c (λ m. result ≡ holding (shown_for m asked)) }
-    ensures made_2 { Made c (λ m. length (shown_for m asked) ≤ 250) }
-{
-    match asked {
-        Asked::Malformed => question(),
-        Asked::Trial {
-            master,
-            ticks,
-            word,
-        } => {
-            let trial = trial::temixohuel_trial(c, master, word, ticks);
-            screen(trial, master, ticks)
-        }
-    }
+    sentences::turned_away(text, trial.number).with(FEED)
 }
 
 // What is printed to a line that begins with D, which is never cut. The controller is given by value: the caller's is
@@ -83,6 +61,16 @@ pub fn answer(c: Controller, line: &[u8]) -> Text
     ensures forms { Forms }
     ensures screens { Screens }
 {
-    let asked = asked::parse_trial(line);
-    shown_for(c, asked)
+    let Some(
+        Asked {
+            master,
+            ticks,
+            word,
+        },
+    ) = asked::parse_trial(line)
+    else {
+        return question();
+    };
+    let trial = trial::temixohuel_trial(c, master, word, ticks);
+    screen(trial, master, ticks)
 }

@@ -4,6 +4,7 @@ ghost use Rattle.text.specs.Text.{writes};
 ghost use Rattle.screen.specs.Screen.{end_text, master_line, share_at, wine_line, wine_lines};
 
 use crate::{decimals, shares};
+use line::command::AXES;
 use text::Text;
 use trial::Trial;
 
@@ -12,15 +13,17 @@ fn end(text: Text, end: u32, ticks: u32) -> Text
     ensures { result ≡ writes text (end_text end ticks) }
 {
     if end == 0 {
-        let not = text.characters(b"does not end in ");
-        let number = not.decimal(ticks);
-        let unit = number.characters(b" ticks, ");
-        return decimals::time(unit, ticks);
+        let told = text
+            .characters(b"does not end in ")
+            .decimal(ticks)
+            .characters(b" ticks, ");
+        return decimals::time(told, ticks);
     }
-    let word = text.characters(b"ends in tick ");
-    let number = word.decimal(end);
-    let comma = number.characters(b", ");
-    decimals::time(comma, end)
+    let told = text
+        .characters(b"ends in tick ")
+        .decimal(end)
+        .characters(b", ");
+    decimals::time(told, end)
 }
 
 // The first line.
@@ -28,11 +31,11 @@ pub(crate) fn master_line(text: Text, master: u32, tick: u32, ticks: u32) -> Tex
     ensures value { result ≡ writes text (master_line master tick ticks) }
     ensures ticks_len_bound { length (master_line master tick ticks) ≤ 68 }
 {
-    let word = text.characters(b"master ");
-    let number = word.decimal(master);
-    let mark = number.characters(b": ");
-    let told = end(mark, tick, ticks);
-    told.characters(b" s\n")
+    let mark = text
+        .characters(b"master ")
+        .decimal(master)
+        .characters(b": ");
+    end(mark, tick, ticks).characters(b" s\n")
 }
 
 // The share of a wine.
@@ -40,9 +43,7 @@ fn share_at(trial: Trial, k: usize) -> u32
     requires { k < 5 }
     ensures { result ≡ share_at trial k }
 {
-    let all = shares::all_pulses(trial);
-    let part = shares::pulses(trial, k);
-    shares::share(part, all)
+    shares::share(shares::pulses(trial, k), shares::all_pulses(trial))
 }
 
 // The line of a wine.
@@ -51,15 +52,13 @@ fn wine_line(text: Text, trial: Trial, k: usize) -> Text
     ensures value { result ≡ writes text (wine_line trial k) }
     ensures k_len_bound { length (wine_line trial k) ≤ 36 }
 {
-    let pulses = shares::pulses(trial, k);
-    let share = share_at(trial, k);
-    let word = text.characters(b"wine ");
-    let number = word.decimal(k as u32);
-    let mark = number.characters(b": ");
-    let count = mark.decimal(pulses);
-    let unit = count.characters(b" pulses, ");
-    let part = decimals::share(unit, share);
-    part.characters(b" %\n")
+    let told = text
+        .characters(b"wine ")
+        .decimal(k as u32)
+        .characters(b": ")
+        .decimal(shares::pulses(trial, k))
+        .characters(b" pulses, ");
+    decimals::share(told, share_at(trial, k)).characters(b" %\n")
 }
 
 // The lines of all wines.
@@ -68,11 +67,8 @@ pub(crate) fn wine_lines(text: Text, trial: Trial) -> Text
     ensures trial_len_bound { length (wine_lines 5 trial) ≤ 180 }
 {
     let mut next = text;
-    let mut k = 0;
-    while k < shares::AXES {
-        let more = wine_line(next, trial, k);
-        next = more;
-        k += 1;
+    for k in 0..AXES as usize {
+        next = wine_line(next, trial, k);
     }
     next
 }

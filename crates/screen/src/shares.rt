@@ -2,11 +2,7 @@
 ghost use Rattle.std.specs.Prelude.{◌≤◌, ◌<◌, ◌≡◌};
 ghost use Rattle.screen.specs.Screen.{pulses, all_pulses, share_of};
 
-use reply::Travel;
 use trial::Trial;
-
-// The axes.
-pub(crate) const AXES: usize = 5;
 
 // All of a dose, in hundredths of a percent.
 const ALL: u64 = 10000;
@@ -16,9 +12,7 @@ pub(crate) fn pulses(trial: Trial, k: usize) -> u32
     requires { k < 5 }
     ensures { result ≡ pulses trial k }
 {
-    let travels = trial.travels;
-    let travel = travels[k];
-    travel.0
+    trial.travels[k].0
 }
 
 // The pulses of all wines, which may be more than 32 bits hold.
@@ -26,10 +20,8 @@ pub(crate) fn all_pulses(trial: Trial) -> u64
     ensures { result ≡ all_pulses trial }
 {
     let mut sum = 0;
-    let mut k = 0;
-    while k < AXES {
-        sum += pulses(trial, k) as u64;
-        k += 1;
+    for travel in trial.travels {
+        sum += travel.0 as u64;
     }
     sum
 }

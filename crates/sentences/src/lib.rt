@@ -14,7 +14,6 @@ ghost use Rattle.sentences.specs.Sentences.{
   better_of,
   closest,
   is_word,
-  or_else,
   place_of,
   question_text,
 };
@@ -30,23 +29,23 @@ mod tables;
 const NO_WORD: usize = 23;
 
 // The sentence of a number; nothing for a number that has none.
+#[tactic(auto, unfolding(crate::specs::Sentences::sentences))]
 pub fn sentence(text: Text, n: u8) -> Text
     ensures { result ≡ writes text (sentence_text n) }
 {
-    text.row(&SENTENCES, n as usize)
+    text.row(&SENTENCES, usize::from(n))
 }
 
 // A number and its sentence.
 pub fn turned_away(text: Text, n: u8) -> Text
     ensures { result ≡ writes text (turned_text n) }
 {
-    let words = text.characters(b"turned away by ");
-    let number = words.decimal(n as u32);
-    let mark = number.characters(b": ");
-    sentence(mark, n)
+    let number = text.characters(b"turned away by ").decimal(u32::from(n));
+    sentence(number.characters(b": "), n)
 }
 
 // What a status says at a place: 0 to 2 for bits 0 and 1, from 3 on each bit from 2 on.
+#[tactic(auto, unfolding(crate::specs::Sentences::states))]
 pub fn state(text: Text, k: usize) -> Text
     ensures { result ≡ writes text (state_text k) }
 {
@@ -54,6 +53,7 @@ pub fn state(text: Text, k: usize) -> Text
 }
 
 // How many first letters a word has in common with the one at place k.
+#[tactic(auto, unfolding(crate::specs::Sentences::keywords))]
 fn shared(k: usize, w: &[u8]) -> usize
     ensures { result ≡ shared k w.now }
 {
@@ -64,40 +64,21 @@ fn shared(k: usize, w: &[u8]) -> usize
 fn better(w: &[u8], j: usize, k: usize) -> usize
     ensures { result ≡ better_of w.now j k }
 {
-    if shared(j, w) < shared(k, w) {
-        return k;
-    }
-    j
+    if shared(j, w) < shared(k, w) { k } else { j }
 }
 
 // The best of all places.
 fn closest(w: &[u8]) -> usize
     ensures { result ≡ closest word_count w.now }
 {
-    let mut best = NO_WORD;
-    let mut k = 0;
-    while k < NO_WORD {
-        best = better(w, best, k);
-        k += 1;
-    }
-    best
+    (0..NO_WORD).fold(NO_WORD, |best, k| better(w, best, k))
 }
 
 // Whether the word at place k is this very one.
 fn is_word(k: usize, w: &[u8]) -> bool
     ensures { result ≡ is_word k w.now }
 {
-    parts::same(parts::part(&KEYWORDS, FEED, k), w)
-}
-
-// The place k for its very word, else the place that was found before.
-fn or_else(w: &[u8], found: usize, k: usize) -> usize
-    ensures { result ≡ or_else w.now found k }
-{
-    if is_word(k, w) {
-        return k;
-    }
-    found
+    parts::part(&KEYWORDS, FEED, k) == w
 }
 
 // The place of the very word, or that of no word.
@@ -105,13 +86,7 @@ pub fn place_of(w: &[u8]) -> usize
     ensures value { result ≡ place_of w.now }
     ensures places { Places }
 {
-    let mut found = NO_WORD;
-    let mut k = 0;
-    while k < NO_WORD {
-        found = or_else(w, found, k);
-        k += 1;
-    }
-    found
+    (0..NO_WORD).find(|&k| is_word(k, w)).unwrap_or(NO_WORD)
 }
 
 // A question mark and the nearest form.
@@ -120,7 +95,5 @@ pub fn question(text: Text, w: &[u8]) -> Text
     ensures nearest { Nearest w.now }
     ensures tables { Tables }
 {
-    let k = closest(w);
-    let mark = text.characters(b"? ");
-    mark.row(&FORMS, k)
+    text.characters(b"? ").row(&FORMS, closest(w))
 }

@@ -1,4 +1,5 @@
-// The places of the words in the table of words.
+// The places of the words in the table of words: the row of each, which has its form in the table of forms too, and of
+// which `Places` and `Tables` speak. An enum would be no plainer: with a table of its own, and turned into the row again.
 
 // The place of each word. A decimal number follows.
 pub const START: usize = 0;

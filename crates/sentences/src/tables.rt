@@ -1,6 +1,7 @@
 // What the desk says in fixed words, row by row (docs/PROTOCOL.md, "From words"). A row ends with a line feed.
 
 // The sentence of each number, from 0 on.
+// One string and no array of slices, here and below: `Tables` and `row` of text speak of its parts.
 pub(crate) const SENTENCES: [u8; 980] = *b"accepted\n\
     the switch is over 15 or equal to 12\n\
     a reply buffer is under 120 bytes\n\

@@ -1,9 +1,7 @@
 mod AskedLaws
 mod BlockLaws
 mod SumLaws
-mod DecimalLaws
 mod TextLaws
-mod SignLaws
 mod KeptLaws
 mod PrintLaws
 mod PartLaws

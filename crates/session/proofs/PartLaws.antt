@@ -1,5 +1,6 @@
 -- Laws of the parts of a step: what a line that begins with T and a byte that goes in answer, as it is held.
 -- Assumes nothing.
+use Rattle.std.proofs.Common.{Some, None}
 use Prim.Native.Nat.{ℕ, ◌+◌, ◌≤◌}
 use native.Mathlib.Omega.{arith}
 use mathlib.Core.List.{List, [], ◌∷◌, ◌++◌}
@@ -13,7 +14,6 @@ use Rattle.machine.specs.Steps.{byte_step}
 use Rattle.controller.specs.declared.state.Controller.{Controller}
 use Rattle.controller.specs.Held.{held}
 use Rattle.machine.specs.Calls.{buffer}
-use Rattle.session.specs.declared.asked.Asked.TheVariants.{Malformed, Ticks}
 use Rattle.session.specs.declared.ticks.Ran.{Ran}
 use Rattle.session.specs.declared.state.Place.TheVariants.{Start, Sending}
 use Rattle.session.specs.declared.state.Sent.{Sent}
@@ -33,7 +33,7 @@ ran_small n w m ran e = let k = blocks_most w m n in let a = ap (λ (r : Ran). r
 
 module _ (m : Machine) (d x : List ℕ) where
   pub question_told : (c : Controller) (r : Taken) → held m ≡ c → r ≡ at_start c 2 → x ≡ over (63 ∷ 10 ∷ []) d
-      → Told r x d (asks m Malformed)
+      → Told r x d (asks m None)
   question_told c r e p q = (p ∙ ap (λ (y : Controller). at_start y 2) (sym e), q)
 
   -- Ticks ran, their block stands as it is printed, and the sums were written behind it.
@@ -41,7 +41,7 @@ module _ (m : Machine) (d x : List ℕ) where
       → b ≡ over (blocks_of n w m) d → y ≡ over (shown (take ran.length b)) b
       → l ≡ ran.length + length (sums_text 5 ran.sums) → x ≡ put ran.length (sums_text 5 ran.sums) y
       → r ≡ stood_at (record { controller = ran.controller; length = l; number = ran.number }) Start
-      → Told r x d (asks m (Ticks n w))
+      → Told r x d (asks m (Some (record { count = n; word = w })))
   ticks_told n w ran b y l r e p q u z s = (
     s ∙ (λ i. stood_at (record { controller = (e i).controller; length = size i; number = (e i).number }) Start),
     z ∙ ((λ i. put (at i) (sums_text 5 (e i).sums) (stands i)) ∙ put_over (shown block) sums d),

@@ -1,20 +1,24 @@
 -- Laws of where the input stands: a step on what is held is the step at the place of every bench so held.
 -- Assumes nothing.
+use Rattle.std.proofs.Common.{Option}
 use Prim.Native.Nat.{ℕ, ◌≤◌, ◌<◌}
 use native.Mathlib.Omega.{arith}
+use mathlib.Core.Bool.{Bool, true, false}
 use mathlib.Core.List.{List, [], ◌∷◌, ◌++◌}
+use mathlib.Core.Logic.{◌⊎◌, inl, inr}
 use mathlib.Core.Path.{◌≡◌, refl, sym, ap, subst, ◌∙◌}
 use lib.ListN.{length}
-use Rattle.laws.proofs.Pick.{on_lt, on_ge, on_eq, on_ne}
+use Rattle.laws.proofs.Pick.{on_lt, on_ge}
 use Rattle.block.proofs.Buffers.{over_nil}
 use Rattle.machine.specs.State.{Machine}
 use Rattle.controller.specs.declared.state.Controller.{Controller}
 use Rattle.controller.specs.Held.{held}
-use Rattle.session.specs.declared.asked.Asked.{Asked}
+use Rattle.session.specs.declared.asked.Ticks.{Ticks}
+use Rattle.session.specs.declared.state.Place as declared
 use Rattle.session.specs.declared.state.Place.TheVariants.{Start, Sending, Asking}
 use Rattle.session.specs.declared.state.Session.{Session}
 use Rattle.session.specs.declared.state.Taken.{Taken}
-use Rattle.session.specs.Asked.{letter_t, asked_of}
+use Rattle.session.specs.Asked.{asked_of}
 use Rattle.session.specs.Kept.{keeping, Keeping}
 use Rattle.session.specs.Session.{
   Place,
@@ -38,6 +42,17 @@ use Rattle.session.specs.Session.{
   untaken_of,
   kept_of,
 }
+use Rattle.session.specs.Stretch.{keeps_of}
+use Rattle.session.proofs.StretchLaws.{kept_passed, sent_passed}
+
+-- An arm for two places.
+not_asking : {p : declared.Place} → (p ≡ Start) ⊎ (p ≡ Sending) → p ≡ Asking → ⊥
+not_asking (inl a) z = cc
+not_asking (inr a) z = cc
+
+not_start : {p : declared.Place} → (p ≡ Sending) ⊎ (p ≡ Asking) → p ≡ Start → ⊥
+not_start (inl a) z = cc
+not_start (inr a) z = cc
 
 -- What is known of a bench m, p that the session s holds.
 module _ (m : Machine) (p : Place) (s : Session) (e : held_bench (record { machine = m; place = p }) ≡ s) where
@@ -50,7 +65,7 @@ module _ (m : Machine) (p : Place) (s : Session) (e : held_bench (record { machi
   at_place : held_place p ≡ s.place
   at_place = ap (λ (x : Session). x.place) e
 
-  pub asked_ended : (a : Asked) → s.place ≡ Asking → Keeping s.kept (λ l. a ≡ asked_of l) → asks m a ≡ ended_at m p
+  pub asked_ended : (a : Option Ticks) → s.place ≡ Asking → Keeping s.kept (λ l. a ≡ asked_of l) → asks m a ≡ ended_at m p
   asked_ended a q k = each p at_kept (at_place ∙ q)
     where
       each : (p : Place) → keeping (kept_in p) ≡ s.kept → held_place p ≡ Asking → asks m a ≡ ended_at m p
@@ -58,53 +73,23 @@ module _ (m : Machine) (p : Place) (s : Session) (e : held_bench (record { machi
       each sending y z = let n : ◌≡◌ {A = ℕ} 0 1 = cc in absurd (omega arith)
       each (asking l) y z = ap (asks m) (k l y)
 
-  pub start_ended : s.place ≡ Start → sends m 13 starting ≡ ended_at m p
-  start_ended q = each p (at_place ∙ q)
+  pub sent_ended : (s.place ≡ Start) ⊎ (s.place ≡ Sending) → sends m 13 starting ≡ ended_at m p
+  sent_ended n = each p (λ z. not_asking n (sym at_place ∙ z))
     where
-      each : (p : Place) → held_place p ≡ Start → sends m 13 starting ≡ ended_at m p
+      each : (p : Place) → (held_place p ≡ Asking → ⊥) → sends m 13 starting ≡ ended_at m p
       each starting z = refl
       each sending z = refl
-      each (asking l) z = let n : ◌≡◌ {A = ℕ} 0 1 = cc in absurd (omega arith)
+      each (asking l) z = absurd (z refl)
 
-  pub sending_ended : s.place ≡ Sending → sends m 13 starting ≡ ended_at m p
-  sending_ended q = each p (at_place ∙ q)
-    where
-      each : (p : Place) → held_place p ≡ Sending → sends m 13 starting ≡ ended_at m p
-      each starting z = refl
-      each sending z = refl
-      each (asking l) z = let n : ◌≡◌ {A = ℕ} 0 1 = cc in absurd (omega arith)
+  kept_at : (b : ℕ) (t : Bool) → t ≡ keeps_of s.place b → keeps_of (held_place p) b ≡ t
+  kept_at b t e = ap (λ (x : declared.Place). keeps_of x b) at_place ∙ sym e
 
-  pub asking_passed : (b : ℕ) → s.place ≡ Asking → keeps m (kept_in p ++ (b ∷ [])) ≡ character_at m p b
-  asking_passed b q = each p (at_place ∙ q)
-    where
-      each : (p : Place) → held_place p ≡ Asking → keeps m (kept_in p ++ (b ∷ [])) ≡ character_at m p b
-      each starting z = let n : ◌≡◌ {A = ℕ} 0 1 = cc in absurd (omega arith)
-      each sending z = let n : ◌≡◌ {A = ℕ} 0 1 = cc in absurd (omega arith)
-      each (asking l) z = refl
+  pub character_kept : (b : ℕ) (t : Bool) → t ≡ keeps_of s.place b → t ≡ true
+      → keeps m (kept_in p ++ (b ∷ [])) ≡ character_at m p b
+  character_kept b t e z = sym (kept_passed m b p (kept_at b t e ∙ z))
 
-  pub letter_passed : (b : ℕ) → s.place ≡ Start → b ≡ letter_t → keeps m (kept_in p ++ (b ∷ [])) ≡ character_at m p b
-  letter_passed b q t = each p (at_place ∙ q)
-    where
-      each : (p : Place) → held_place p ≡ Start → keeps m (kept_in p ++ (b ∷ [])) ≡ character_at m p b
-      each starting z = on_eq b letter_t (keeps m (b ∷ [])) _ _ t refl
-      each sending z = let n : ◌≡◌ {A = ℕ} 0 1 = cc in absurd (omega arith)
-      each (asking l) z = let n : ◌≡◌ {A = ℕ} 0 1 = cc in absurd (omega arith)
-
-  pub start_passed : (b : ℕ) → s.place ≡ Start → (b ≡ letter_t → ⊥) → sends m b sending ≡ character_at m p b
-  start_passed b q t = each p (at_place ∙ q)
-    where
-      each : (p : Place) → held_place p ≡ Start → sends m b sending ≡ character_at m p b
-      each starting z = on_ne b letter_t (sends m b sending) _ _ t refl
-      each sending z = let n : ◌≡◌ {A = ℕ} 0 1 = cc in absurd (omega arith)
-      each (asking l) z = let n : ◌≡◌ {A = ℕ} 0 1 = cc in absurd (omega arith)
-
-  pub sending_passed : (b : ℕ) → s.place ≡ Sending → sends m b sending ≡ character_at m p b
-  sending_passed b q = each p (at_place ∙ q)
-    where
-      each : (p : Place) → held_place p ≡ Sending → sends m b sending ≡ character_at m p b
-      each starting z = let n : ◌≡◌ {A = ℕ} 0 1 = cc in absurd (omega arith)
-      each sending z = refl
-      each (asking l) z = let n : ◌≡◌ {A = ℕ} 0 1 = cc in absurd (omega arith)
+  pub character_sent : (b : ℕ) (t : Bool) → t ≡ keeps_of s.place b → t ≡ false → sends m b sending ≡ character_at m p b
+  character_sent b t e z = sym (sent_passed m b p (kept_at b t e ∙ z))
 
   -- A character that is kept prints nothing.
   pub keeps_told : (b : ℕ) (r : Taken) (d : List ℕ)
@@ -135,19 +120,11 @@ module _ (m : Machine) (p : Place) (s : Session) (e : held_bench (record { machi
       each sending z = let n : ◌≡◌ {A = ℕ} 0 1 = cc in absurd (omega arith)
       each (asking l) z = let n : ◌≡◌ {A = ℕ} 0 1 = cc in absurd (omega arith)
 
-  pub sending_finished : s.place ≡ Sending → ended_at m p ≡ finished (record { machine = m; place = p })
-  sending_finished q = each p (at_place ∙ q)
+  pub ended_finished : (s.place ≡ Sending) ⊎ (s.place ≡ Asking) → ended_at m p ≡ finished (record { machine = m; place = p })
+  ended_finished n = each p (λ z. not_start n (sym at_place ∙ z))
     where
-      each : (p : Place) → held_place p ≡ Sending → ended_at m p ≡ finished (record { machine = m; place = p })
-      each starting z = let n : ◌≡◌ {A = ℕ} 0 1 = cc in absurd (omega arith)
-      each sending z = refl
-      each (asking l) z = refl
-
-  pub asking_finished : s.place ≡ Asking → ended_at m p ≡ finished (record { machine = m; place = p })
-  asking_finished q = each p (at_place ∙ q)
-    where
-      each : (p : Place) → held_place p ≡ Asking → ended_at m p ≡ finished (record { machine = m; place = p })
-      each starting z = let n : ◌≡◌ {A = ℕ} 0 1 = cc in absurd (omega arith)
+      each : (p : Place) → (held_place p ≡ Start → ⊥) → ended_at m p ≡ finished (record { machine = m; place = p })
+      each starting z = absurd (z refl)
       each sending z = refl
       each (asking l) z = refl
 

@@ -3,11 +3,11 @@ use Prim.Native.Nat.{ℕ, suc, ◌+◌, ◌≤◌, ◌<◌}
 use native.Mathlib.Numerals.{add-one}
 use native.Mathlib.Omega.{arith}
 use mathlib.Core.Bool.{Bool, cond}
-use mathlib.Core.List.{List, [], ◌∷◌, ◌++◌}
+use mathlib.Core.List.{List, [], ◌∷◌, ◌++◌, append-nil}
 use mathlib.Core.Path.{◌≡◌, refl, sym, ap, ◌∙◌}
 use borrow.Author.Tests.{le-ltb}
 use lib.ListN.{length, get_or, take, drop, set}
-use lib.Seq.{take-suc, take-append_seam, drop-append_seam, get_or-drop, length-take-le}
+use lib.Seq.{take-suc, take-append_seam, drop-append_seam, get_or-drop, length-take-le, take-length, drop-length}
 use Rattle.laws.proofs.Pick.{by_bool}
 use Rattle.block.specs.Block.{over}
 use Rattle.block.proofs.Buffers.{put_front}
@@ -80,6 +80,20 @@ module _ (i : ℕ) (d buf : List ℕ) (h : i < length d) (e : buf ≡ over (show
       ∙ put_snoc 0 (shown (take i d)) d (shown_byte (get_or d i 0)) (omega (arith, reach))
       ∙ put_front (shown (take i d) ++ (shown_byte (get_or d i 0) ∷ [])) d
       ∙ ap (λ (s : List ℕ). over s d) text_next
+
+-- All of a front part as it is printed, and what stands behind it.
+pub show_all : (n i : ℕ) (d items : List ℕ) → n ≤ length d → i ≡ length (take n d)
+    → items ≡ over (shown (take i (take n d))) (take n d)
+    → items ++ drop n d ≡ over (shown (take n d)) d
+unfolding over
+show_all n i d items h k e =
+    ap (λ (x : List ℕ). x ++ drop n d) all ∙ rw (shown_length (take n d), length-take-le n d h)
+  where
+    all : items ≡ shown (take n d)
+    all =
+        e
+        ∙ (rw (k, take-length (take n d))
+        (rw (shown_length (take n d), drop-length (take n d)) (append-nil (shown (take n d)))))
 
 -- ---- the reply to a byte
 

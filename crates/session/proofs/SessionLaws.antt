@@ -1,5 +1,6 @@
 -- Laws of the session: it begins as one that calls made, and the next session is again one that calls made.
 -- Assumes nothing.
+use Rattle.std.proofs.Common.{Option, Some, None}
 use Prim.Native.Nat.{ℕ}
 use mathlib.Core.List.{List, [], ◌∷◌, ◌++◌}
 use mathlib.Core.Path.{◌≡◌, refl, sym, ap, subst, ◌∙◌}
@@ -12,8 +13,7 @@ use Rattle.host.specs.Watch.{watch_off}
 use Rattle.controller.specs.declared.state.Controller.{Controller}
 use Rattle.controller.specs.Held.{held}
 use Rattle.controller.specs.Reach.{Reachable}
-use Rattle.session.specs.declared.asked.Asked.{Asked}
-use Rattle.session.specs.declared.asked.Asked.TheVariants.{Malformed, Ticks}
+use Rattle.session.specs.declared.asked.Ticks.{Ticks}
 use Rattle.session.specs.declared.kept.Kept.{Kept}
 use Rattle.session.specs.declared.state.Place.TheVariants.{Start}
 use Rattle.session.specs.declared.state.Session.{Session}
@@ -81,13 +81,13 @@ lives_running x l = record {
 }
 
 module _ (w : ℕ) (h : List Call) where
-  asks_lives : (a : Asked) → Lives (asks (state w h) a).bench
-  asks_lives Malformed = record { switch = w; history = h; place = starting; is = refl }
-  asks_lives (Ticks n x) = record {
+  asks_lives : (a : Option Ticks) → Lives (asks (state w h) a).bench
+  asks_lives None = record { switch = w; history = h; place = starting; is = refl }
+  asks_lives (Some t) = record {
     switch = w;
-    history = ticks n x h;
+    history = ticks t.count t.word h;
     place = starting;
-    is = ap (λ (m : Machine). record { machine = m; place = starting }) (past_state w x h n);
+    is = ap (λ (m : Machine). record { machine = m; place = starting }) (past_state w t.word h t.count);
   }
 
   sends_lives : (b : ℕ) (p : Place) → Lives (sends (state w h) b p).bench

@@ -1,15 +1,20 @@
 -- A stretch of characters, none of which is a line feed or 0D: what the bench is after them, and that they print
 -- nothing and have no number. Assumes nothing.
-use Prim.Native.Nat.{ℕ, ◌<◌}
+use Rattle.std.proofs.Common.{Option, Some, None}
+use Rattle.std.specs.List.{position_or_len}
+use Rattle.std.specs.Option.{unwrap_or}
+use Rattle.std.proofs.lemmas.List.Recursion.{is_position_or_len}
+use Prim.Native.Nat.{ℕ, ◌+◌, ◌<◌}
 use native.Mathlib.Omega.{arith}
-use mathlib.Core.Bool.{true, false}
+use mathlib.Core.Bool.{true, false, cond}
 use mathlib.Core.List.{List, [], ◌∷◌, ◌++◌, append-nil}
 use mathlib.Core.Path.{◌≡◌, refl, sym, ap, subst, ◌∙◌}
-use lib.Dec.{eqb}
+use lib.Dec.{ltb, eqb}
 use lib.ListN.{length, get_or}
 use lib.Seq.{append_snoc}
-use Rattle.laws.proofs.Pick.{on_true, on_false, by_bool}
+use Rattle.laws.proofs.Pick.{on_true, on_false, by_bool, by_lt}
 use Rattle.receiver.specs.Receiver.{before, before_end}
+use Rattle.receiver.proofs.Laws.{before_short}
 use Rattle.machine.specs.State.{Machine}
 use Rattle.machine.specs.Steps as steps
 use Rattle.machine.specs.Calls.{Call, byte, Origin, given, run, from, bytes, buffer}
@@ -34,6 +39,26 @@ use Rattle.session.specs.Session.{
 }
 use Rattle.session.specs.Lines.{after}
 use Rattle.session.specs.Stretch.{is_mark, stretch, Silent, keeps_of}
+
+-- ---- Where it ends
+
+marked : (bs : List ℕ) → length (stretch bs) ≡ position_or_len is_mark bs
+unfolding before
+marked bs =
+    is_position_or_len (λ (s : List ℕ). length (stretch s)) is_mark refl
+    (λ b s. by_bool (λ (r : List ℕ). length r ≡ cond (is_mark b) 0 (1 + length (stretch s))) (is_mark b) [] (b ∷ stretch s)
+    (λ e. rw e) (λ e. rw e (omega arith)))
+    bs
+
+-- The place of the first mark, or else the length of the whole.
+pub marked_at : (bs : List ℕ) (r : Option ℕ)
+    → r ≡ cond (ltb (position_or_len is_mark bs) (length bs)) (Some (position_or_len is_mark bs)) None
+    → unwrap_or r (length bs) ≡ length (stretch bs)
+marked_at bs r e =
+    ap (λ (o : Option ℕ). unwrap_or o (length bs)) e
+    ∙ by_lt (λ (o : Option ℕ). unwrap_or o (length bs) ≡ length (stretch bs)) (position_or_len is_mark bs) (length bs) _ _
+    (λ h. sym (marked bs))
+    (λ h. omega (arith, marked bs, before_short is_mark bs))
 
 -- ---- A byte that is neither
 
@@ -113,6 +138,19 @@ kept_on m (b ∷ bs) l =
 
 -- ---- From any place on
 
+-- A character that is kept, and one that goes in.
+pub kept_passed : (m : Machine) (b : ℕ) (p : Place) → keeps_of (held_place p) b ≡ true
+    → character_at m p b ≡ keeps m (kept_in p ++ (b ∷ []))
+kept_passed m b starting z = sym (on_true (eqb b letter_t) (keeps m (b ∷ [])) (keeps m (b ∷ [])) (sends m b sending) z refl)
+kept_passed m b sending z = true_false false z refl
+kept_passed m b (asking l) z = refl
+
+pub sent_passed : (m : Machine) (b : ℕ) (p : Place) → keeps_of (held_place p) b ≡ false
+    → character_at m p b ≡ sends m b sending
+sent_passed m b starting z = sym (on_false (eqb b letter_t) (sends m b sending) (keeps m (b ∷ [])) (sends m b sending) z refl)
+sent_passed m b sending z = refl
+sent_passed m b (asking l) z = true_false true refl z
+
 module _ (m : Machine) where
   pub sends_on : (p : Place) (bs : List ℕ) → 0 < length (stretch bs) → keeps_of (held_place p) (get_or bs 0 0) ≡ false
       → after (record { machine = m; place = p }) (stretch bs)
@@ -123,13 +161,8 @@ module _ (m : Machine) where
       by_bool (λ (s : List ℕ). 0 < length s → after (record { machine = m; place = p }) s
       ≡ record { machine = from m (bytes s []); place = sending }) (is_mark b) [] (b ∷ stretch bs)
       (λ e n. absurd (omega arith))
-      (λ e n. ap (λ (a : Answer). after a.bench (stretch bs)) (passes b e m p ∙ goes p q)
+      (λ e n. ap (λ (a : Answer). after a.bench (stretch bs)) (passes b e m p ∙ sent_passed m b p q)
       ∙ sent_on (given m) bs (byte b buffer ∷ [])) k
-    where
-      goes : (p : Place) → keeps_of (held_place p) b ≡ false → character_at m p b ≡ sends m b sending
-      goes starting z = sym (on_false (eqb b letter_t) (sends m b sending) (keeps m (b ∷ [])) (sends m b sending) z refl)
-      goes sending z = refl
-      goes (asking l) z = true_false true refl z
 
   pub keeps_on : (p : Place) (bs : List ℕ) → 0 < length (stretch bs) → keeps_of (held_place p) (get_or bs 0 0) ≡ true
       → after (record { machine = m; place = p }) (stretch bs)
@@ -140,14 +173,9 @@ module _ (m : Machine) where
       by_bool (λ (s : List ℕ). 0 < length s → after (record { machine = m; place = p }) s
       ≡ record { machine = m; place = asking (kept_in p ++ s) }) (is_mark b) [] (b ∷ stretch bs)
       (λ e n. absurd (omega arith))
-      (λ e n. ap (λ (a : Answer). after a.bench (stretch bs)) (passes b e m p ∙ stays p q)
+      (λ e n. ap (λ (a : Answer). after a.bench (stretch bs)) (passes b e m p ∙ kept_passed m b p q)
       ∙ (kept_on m bs (kept_in p ++ (b ∷ []))
       ∙ ap (λ (l : List ℕ). record { machine = m; place = asking l }) (append_snoc (kept_in p) b (stretch bs)))) k
-    where
-      stays : (p : Place) → keeps_of (held_place p) b ≡ true → character_at m p b ≡ keeps m (kept_in p ++ (b ∷ []))
-      stays starting z = sym (on_true (eqb b letter_t) (keeps m (b ∷ [])) (keeps m (b ∷ [])) (sends m b sending) z refl)
-      stays sending z = true_false false z refl
-      stays (asking l) z = refl
 
 -- Nothing is kept of a line whose characters go in.
 pub none_kept : (p : Place) (b : ℕ) → keeps_of (held_place p) b ≡ false → kept_in p ≡ []

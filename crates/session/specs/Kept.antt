@@ -1,9 +1,8 @@
 -- How a line that begins with T is held: its first 17 characters, zeros after them, and their count up to 17. The form
 -- has at most 16 characters.
-use Rattle.std.specs.Prelude.{ℕ, ◌+◌, ◌-◌, min, cond, List, ◌++◌, ◌≡◌, leb, ltb, length, take, set, replicate}
+use Rattle.std.specs.Prelude.{ℕ, ◌+◌, ◌-◌, min, cond, List, ◌++◌, ◌≡◌, leb, ltb, length, take, set, replicate, Option, None}
 use Rattle.session.specs.declared.kept.Kept.{Kept}
-use Rattle.session.specs.declared.asked.Asked.{Asked}
-use Rattle.session.specs.declared.asked.Asked.TheVariants.{Malformed}
+use Rattle.session.specs.declared.asked.Ticks.{Ticks}
 use Rattle.session.specs.Asked.{asked_of}
 
 abbrev pub keeping : List ℕ → Kept
@@ -20,5 +19,5 @@ push_of k b =
     cond (leb 17 k.count) k
     (record { chars = set k.chars k.count b; count = k.count + 1 })
 
-abbrev pub kept_asked : Kept → Asked
-kept_asked k = cond (ltb 16 k.count) Malformed (asked_of (take k.count k.chars))
+abbrev pub kept_asked : Kept → Option Ticks
+kept_asked k = cond (ltb 16 k.count) None (asked_of (take k.count k.chars))

@@ -1,5 +1,5 @@
 -- Paper 01, "Host end and program": the bench program as a machine that takes its input a byte at a time.
-use Rattle.std.specs.Prelude.{ℕ, cond, List, [], ◌∷◌, ◌++◌, ◌≡◌, ltb, eqb, length}
+use Rattle.std.specs.Prelude.{ℕ, cond, List, [], ◌∷◌, ◌++◌, ◌≡◌, ltb, eqb, length, Option, Some, None}
 use Rattle.digits.specs.Digits.{end_byte}
 use Rattle.laws.specs.Axes.{each}
 use Rattle.block.specs.Block.{over}
@@ -10,8 +10,7 @@ use Rattle.machine.specs.Calls.{Call, state, buffer, bytes}
 use Rattle.controller.specs.declared.state.Controller.{Controller}
 use Rattle.controller.specs.Held.{held}
 use Rattle.host.specs.Watch.{watch_off}
-use Rattle.session.specs.declared.asked.Asked.{Asked}
-use Rattle.session.specs.declared.asked.Asked.TheVariants.{Malformed, Ticks}
+use Rattle.session.specs.declared.asked.Ticks.{Ticks}
 use Rattle.session.specs.declared.state.Place as declared
 use Rattle.session.specs.declared.state.Place.TheVariants.{Start, Sending, Asking}
 use Rattle.session.specs.declared.state.Session.{Session}
@@ -68,14 +67,14 @@ sends m b p = sent (byte_step m b buffer) p
 abbrev pub keeps : Machine → List ℕ → Answer
 keeps m l = record { bench = record { machine = m; place = asking l }; printed = []; number = 0 }
 
--- A line that begins with T runs n ticks and prints the block of a W line that comes in them, if one does (paper 02,
+-- A line of the form runs its ticks and prints the block of a W line that comes in them, if one does (paper 02,
 -- 3/14), and then the sums of the signed pulses of axes 0 to 4; or prints `?` (63).
-abbrev pub asks : Machine → Asked → Answer
-asks m Malformed = record { bench = record { machine = m; place = starting }; printed = 63 ∷ 10 ∷ []; number = 0 }
-asks m (Ticks n w) = record {
-  bench = record { machine = after_ticks n w m; place = starting };
-  printed = shown (blocks_of n w m) ++ sums_text 5 (each (sum_of n w m));
-  number = number_in n w m;
+abbrev pub asks : Machine → Option Ticks → Answer
+asks m None = record { bench = record { machine = m; place = starting }; printed = 63 ∷ 10 ∷ []; number = 0 }
+asks m (Some t) = record {
+  bench = record { machine = after_ticks t.count t.word m; place = starting };
+  printed = shown (blocks_of t.count t.word m) ++ sums_text 5 (each (sum_of t.count t.word m));
+  number = number_in t.count t.word m;
 }
 
 -- The end of a line: other lines go in with 0D for their line feed.

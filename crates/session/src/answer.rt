@@ -7,25 +7,22 @@ ghost use Rattle.machine.specs.Calls.{buffer};
 ghost use Rattle.controller.specs.Reach.{Reachable, Made};
 ghost use Rattle.session.specs.Session.{shown_byte, shown, asks, Passed, stood_at, at_start, Told};
 
-use crate::asked::Asked;
+use crate::asked::Ticks;
 use crate::kept::Kept;
 use crate::state::{Place, Sent, Session, Taken};
-use crate::stretch::FEED;
 use crate::{sums, ticks};
 use controller::Controller;
 use digits::END;
+use text::FEED;
 
 // The question mark.
-const QUESTION: u8 = 63;
+const QUESTION: u8 = b'?';
 
 // A byte of a reply as it is printed.
 fn shown_byte(c: u8) -> u8
     ensures { result ≡ shown_byte c }
 {
-    if c == END {
-        return FEED;
-    }
-    c
+    if c == END { FEED } else { c }
 }
 
 // The front part of a buffer as it is printed.
@@ -33,10 +30,8 @@ fn show(buf: &mut [u8], n: usize)
     requires { n ≤ length buf.old }
     ensures { buf.new ≡ over (shown (take n buf.old)) buf.old }
 {
-    let mut i = 0;
-    while i < n {
-        buf[i] = shown_byte(buf[i]);
-        i += 1;
+    for b in buf[..n].iter_mut() {
+        *b = shown_byte(*b);
     }
 }
 
@@ -47,12 +42,10 @@ pub(crate) fn send(c: Controller, buf: &mut [u8], b: u8) -> Sent
     ensures { Made c (λ m. Passed result buf.new buf.old (byte_step m b buffer)) }
 {
     let a = c.byte(buf, b);
-    let length = a.length;
-    show(buf, length);
-    let controller = a.controller;
+    show(buf, a.length);
     Sent {
-        controller,
-        length,
+        controller: a.controller,
+        length: a.length,
         number: a.number,
     }
 }
@@ -61,15 +54,12 @@ pub(crate) fn send(c: Controller, buf: &mut [u8], b: u8) -> Sent
 pub(crate) fn stand(sent: Sent, place: Place) -> Taken
     ensures { result ≡ stood_at sent place }
 {
-    let controller = sent.controller;
-    let kept = Kept::new();
-    let session = Session {
-        controller,
-        kept,
-        place,
-    };
     Taken {
-        session,
+        session: Session {
+            controller: sent.controller,
+            kept: Kept::new(),
+            place,
+        },
         length: sent.length,
         number: sent.number,
     }
@@ -91,26 +81,22 @@ fn question(c: Controller, buf: &mut [u8]) -> Taken
 }
 
 // A line that begins with T.
-pub(crate) fn answer(c: Controller, buf: &mut [u8], asked: Asked) -> Taken
+pub(crate) fn answer(c: Controller, buf: &mut [u8], asked: Option<Ticks>) -> Taken
     requires reachable { Reachable c }
     requires in_bounds { 120 ≤ length buf.old }
     ensures { Made c (λ m. Told result buf.new buf.old (asks m asked)) }
 {
-    match asked {
-        Asked::Malformed => question(c, buf),
-        Asked::Ticks { count, word } => {
-            let ran = ticks::run_ticks(c, buf, count, word);
-            let at = ran.length as usize;
-            show(buf, at);
-            let sums = ran.sums;
-            let length = sums::write_behind(buf, at, sums);
-            let controller = ran.controller;
-            let sent = Sent {
-                controller,
-                length,
-                number: ran.number,
-            };
-            stand(sent, Place::Start)
-        }
-    }
+    let Some(Ticks { count, word }) = asked else {
+        return question(c, buf);
+    };
+    let ran = ticks::run_ticks(c, buf, count, word);
+    let at = ran.length as usize;
+    show(buf, at);
+    let length = sums::write_behind(buf, at, ran.sums);
+    let sent = Sent {
+        controller: ran.controller,
+        length,
+        number: ran.number,
+    };
+    stand(sent, Place::Start)
 }

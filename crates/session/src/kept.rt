@@ -4,13 +4,18 @@ ghost use Rattle.session.specs.Asked.{asked_of};
 ghost use Rattle.session.specs.Kept.{keeping, Keeping, push_of, kept_asked};
 
 use crate::asked;
-use crate::asked::Asked;
+use crate::asked::Ticks;
 
-// The first 17 characters, zeros after them, and their count: one more than the form has. A public type, since callers
-// hold sessions within values of their own; no function of it is public.
+// One character more than the form has.
+const ROOM: usize = 17;
+
+// The first 17 characters, zeros after them, and their count. A public type, since callers hold sessions within values
+// of their own; no function of it is public. No text of the crate `text`, whose 250 bytes would go with the session at
+// every byte: tried, lines `Q06` took a tenth longer. A const parameter on Text would stand in each statement above it
+// (holding, writes), for three short functions here.
 #[derive(Clone, Copy)]
 pub struct Kept {
-    chars: [u8; 17],
+    chars: [u8; ROOM],
     count: u8,
 }
 
@@ -20,54 +25,38 @@ impl Kept {
         ensures { result ≡ keeping [] }
     {
         Kept {
-            chars: [0; 17],
+            chars: [0; ROOM],
             count: 0,
         }
     }
 
     // One character more. From 17 on the count stands still.
-    pub(crate) fn push(self, b: u8) -> Kept
+    pub(crate) fn push(mut self, b: u8) -> Kept
         ensures value { result ≡ push_of self b }
         ensures keeping { Keeping self (λ l. result ≡ keeping (l ++ (b ∷ []))) }
     {
-        let count = self.count;
-        if 17 <= count {
-            return self;
+        if (self.count as usize) < ROOM {
+            self.chars[self.count as usize] = b;
+            self.count += 1;
         }
-        let mut chars = self.chars;
-        let at = count as usize;
-        chars[at] = b;
-        Kept {
-            chars,
-            count: count + 1,
-        }
+        self
     }
 
     // Characters one after another.
     pub(crate) fn push_all(self, cs: &[u8]) -> Kept
         ensures { Keeping self (λ l. result ≡ keeping (l ++ cs.now)) }
     {
-        let mut next = self;
-        let mut i = 0;
-        while i < cs.len() {
-            let more = next.push(cs[i]);
-            next = more;
-            i += 1;
-        }
-        next
+        cs.iter().fold(self, |kept, &c| kept.push(c))
     }
 
     // What the line asks, however long it is.
-    pub(crate) fn asked(self) -> Asked
+    pub(crate) fn asked(self) -> Option<Ticks>
         ensures value { result ≡ kept_asked self }
         ensures keeping { Keeping self (λ l. result ≡ asked_of l) }
     {
-        let count = self.count;
-        if 16 < count {
-            return Asked::Malformed;
+        if 16 < self.count {
+            return None;
         }
-        let chars = self.chars;
-        let n = count as usize;
-        asked::parse_tick(&chars[..n])
+        asked::parse_tick(&self.chars[..self.count as usize])
     }
 }

@@ -11,13 +11,12 @@ ghost use Rattle.session.specs.Session.{fresh, ended, character, taken, finished
 ghost use Rattle.session.specs.Session.{Told, Answers, Running, Runs};
 ghost use Rattle.session.specs.Stretch.{stretch, held_stretch, Silent};
 
-use crate::asked::LETTER;
 pub use crate::asked::MOST_TICKS;
 use crate::kept::Kept;
 pub use crate::state::{Gathered, Place, Session, Taken};
-use crate::stretch::FEED;
 use block::REPLY_ROOM;
 use digits::END;
+use text::FEED;
 
 mod answer;
 mod asked;
@@ -36,11 +35,9 @@ impl Session {
         ensures running { Running result }
         ensures lines { Lines }
     {
-        let controller = opening::opened();
-        let kept = Kept::new();
         Session {
-            controller,
-            kept,
+            controller: opening::opened(),
+            kept: Kept::new(),
             place: Place::Start,
         }
     }
@@ -49,16 +46,12 @@ impl Session {
     fn keep(self, b: u8) -> Taken
         ensures { Keeping self.kept (λ l. result ≡ kept_of self.controller (l ++ (b ∷ []))) }
     {
-        let controller = self.controller;
-        let was = self.kept;
-        let kept = was.push(b);
-        let session = Session {
-            controller,
-            kept,
-            place: Place::Asking,
-        };
         Taken {
-            session,
+            session: Session {
+                controller: self.controller,
+                kept: self.kept.push(b),
+                place: Place::Asking,
+            },
             length: 0,
             number: 0,
         }
@@ -70,20 +63,10 @@ impl Session {
         requires in_bounds { 120 ≤ length buf.old }
         ensures { Runs self (λ x. Told result buf.new buf.old (ended x)) }
     {
-        let controller = self.controller;
-        let place = self.place;
-        match place {
-            Place::Asking => {
-                let kept = self.kept;
-                let asked = kept.asked();
-                answer::answer(controller, buf, asked)
-            }
-            Place::Start => {
-                let sent = answer::send(controller, buf, END);
-                answer::stand(sent, Place::Start)
-            }
-            Place::Sending => {
-                let sent = answer::send(controller, buf, END);
+        match self.place {
+            Place::Asking => answer::answer(self.controller, buf, self.kept.asked()),
+            Place::Start | Place::Sending => {
+                let sent = answer::send(self.controller, buf, END);
                 answer::stand(sent, Place::Start)
             }
         }
@@ -95,23 +78,11 @@ impl Session {
         requires in_bounds { 120 ≤ length buf.old }
         ensures { Runs self (λ x. Told result buf.new buf.old (character x b)) }
     {
-        let place = self.place;
-        match place {
-            Place::Asking => self.keep(b),
-            Place::Start => {
-                if b == LETTER {
-                    return self.keep(b);
-                }
-                let controller = self.controller;
-                let sent = answer::send(controller, buf, b);
-                answer::stand(sent, Place::Sending)
-            }
-            Place::Sending => {
-                let controller = self.controller;
-                let sent = answer::send(controller, buf, b);
-                answer::stand(sent, Place::Sending)
-            }
+        if stretch::keeps(self.place, b) {
+            return self.keep(b);
         }
+        let sent = answer::send(self.controller, buf, b);
+        answer::stand(sent, Place::Sending)
     }
 
     // The bytes before the first line feed or 0D, at once: the same as `take` of each. They print nothing and have no
@@ -128,13 +99,10 @@ impl Session {
         let mut place = self.place;
         if 0 < count {
             if stretch::keeps(place, bytes[0]) {
-                let more = kept.push_all(&bytes[..count]);
-                kept = more;
+                kept = kept.push_all(&bytes[..count]);
                 place = Place::Asking;
             } else {
-                let gathered = controller.gather(&bytes[..count]);
-                let next = gathered.controller;
-                controller = next;
+                controller = controller.gather(&bytes[..count]).controller;
                 place = Place::Sending;
             }
         }
@@ -181,15 +149,13 @@ impl Session {
         if buf.len() < REPLY_ROOM {
             return self.untaken();
         }
-        let place = self.place;
-        match place {
+        match self.place {
             Place::Start => Taken {
                 session: self,
                 length: 0,
                 number: 0,
             },
-            Place::Sending => self.end_line(buf),
-            Place::Asking => self.end_line(buf),
+            Place::Sending | Place::Asking => self.end_line(buf),
         }
     }
 }

@@ -12,12 +12,8 @@ use controller::Controller;
 pub(crate) fn opened() -> Controller
     ensures { result ≡ held fresh.machine }
 {
-    let on = controller::power_on(0);
-    let powered = on.controller;
     let line = host::watch_off();
-    let gathered = powered.gather(&line);
-    let controller = gathered.controller;
+    let gathered = controller::power_on(0).controller.gather(&line);
     let mut reply = [0u8; REPLY_ROOM];
-    let ended = answer::send(controller, &mut reply, line[4]);
-    ended.controller
+    answer::send(gathered.controller, &mut reply, line[4]).controller
 }

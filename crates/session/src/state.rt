@@ -19,6 +19,8 @@ pub enum Place {
 }
 
 // The controller, the characters of a line that begins with T, and where the input stands.
+// That calls made it is a premise of its functions, no ghost field: such a field has one proof at most, and many lists of
+// calls leave one session.
 #[derive(Clone, Copy)]
 pub struct Session {
     pub(crate) controller: Controller,
@@ -40,6 +42,7 @@ impl Session {
 // The next session; the length of what is to be printed, which stands at the front of the lent buffer; and a number: 2
 // for a buffer under 120 bytes, the number that turned away the line which ended here, or that of a waiting start which
 // failed in the ticks of a line that begins with T; else 0.
+// No Result: the next session is promised with every number. A length, since the bytes stand in the lent buffer.
 #[derive(Drop)]
 pub struct Taken {
     pub session: Session,
@@ -48,6 +51,8 @@ pub struct Taken {
 }
 
 // The controller after a byte that went in or after ticks, the length of what is to be printed, and the number told.
+// No Result: the controller is promised with every number.
+// No `ByteAnswer`: it comes of ticks too.
 #[derive(Drop)]
 pub(crate) struct Sent {
     pub(crate) controller: Controller,

@@ -14,6 +14,7 @@ use controller::Controller;
 // The controller after some ticks, the sums of the signed pulses of axes 0 to 4 in them, the number of the last of them
 // that has one, else 0, and the length of the block that one of them answered, which stands at the front of the lent
 // buffer.
+// No Result: the controller is promised with every number.
 #[derive(Drop)]
 pub(crate) struct Ran {
     pub(crate) controller: Controller,
@@ -48,10 +49,7 @@ fn added(sums: [i32; 5], pulses: [i8; 5]) -> [i32; 5]
 fn later(before: u8, n: u8) -> u8
     ensures { result ≡ later_of before n }
 {
-    if n == 0 {
-        return before;
-    }
-    n
+    if n == 0 { before } else { n }
 }
 
 // One tick more.
@@ -63,19 +61,12 @@ fn ticked(ran: Ran, buf: &mut [u8], word: u32) -> Ran
     ensures made_2 { Made ran.controller (λ m. buf.new
         ≡ over (tick_step m word buffer).reply buf.old) }
 {
-    let was = ran.controller;
-    let sums = ran.sums;
-    let a = was.tick(buf, word);
-    let pulses = a.pulses;
-    let more = added(sums, pulses);
-    let number = later(ran.number, a.number);
-    let length = later(ran.length, a.length);
-    let controller = a.controller;
+    let a = ran.controller.tick(buf, word);
     Ran {
-        controller,
-        sums: more,
-        number,
-        length,
+        controller: a.controller,
+        sums: added(ran.sums, a.pulses),
+        number: later(ran.number, a.number),
+        length: later(ran.length, a.length),
     }
 }
 
@@ -92,11 +83,8 @@ pub(crate) fn run_ticks(c: Controller, buf: &mut [u8], count: u32, word: u32) ->
         number: 0,
         length: 0,
     };
-    let mut i = 0;
-    while i < count {
-        let next = ticked(ran, buf, word);
-        ran = next;
-        i += 1;
+    for _ in 0..count {
+        ran = ticked(ran, buf, word);
     }
     ran
 }

@@ -1,5 +1,8 @@
 -- One call that is not turned away, begins no stop and no foreign move: a tick, a character of a line, and the 0D of a
 -- line with one of the converter's commands. Assumes nothing.
+use Rattle.receiver.specs.declared.Line.{Line}
+use Rattle.line.specs.Line.{accepting}
+use Rattle.std.proofs.Common.{Option, Some, None}
 use Prim.Native.Nat.{ℕ}
 use mathlib.Core.Bool.{Bool, true, false, cond, not, false≢true}
 use mathlib.Core.List.{List, [], ◌∷◌, ◌++◌}
@@ -8,12 +11,8 @@ use borrow.Author.Tests.{eqb-true, not-false}
 use lib.Dec.{eqb}
 use lib.IntN.{pos}
 use Rattle.digits.specs.Digits.{end_byte}
-use Rattle.digits.specs.declared.Ident.{Ident}
 use Rattle.line.specs.declared.command.Command.{Command}
-use Rattle.line.specs.declared.Judged.TheVariants.{Accepted}
-use Rattle.receiver.specs.declared.Heard.{Heard}
-use Rattle.receiver.specs.declared.Heard.TheVariants.{Character, Line}
-use Rattle.receiver.specs.Receiver.{Receipt, heard_line, receive}
+use Rattle.receiver.specs.Receiver.{Receipt, heard_line, receive, line_heard}
 use Rattle.machine.specs.State.{Machine}
 use Rattle.machine.specs.Commands.{number}
 use Rattle.machine.specs.Steps.{Outcome, untaken, gathered, refused, accepted, outcome_of, outcome, answered, is_short}
@@ -29,14 +28,14 @@ use Rattle.machine.proofs.Told.{called_on}
 use Rattle.station.specs.Executed.{is_refused, is_foreign}
 use Rattle.station.proofs.CommandLaws.{is_plain, planned, added, Unstopped, Leaves, idles, obeys}
 
-abbrev is_line : Heard → Bool
-is_line Character = false
-is_line (Line silent ident judged) = true
+abbrev is_line : Option Line → Bool
+is_line None = false
+is_line (Some line) = true
 
 -- What the receiver makes of a byte, by whether it is 0D.
 abbrev receipt_by : List ℕ → ℕ → Bool → Receipt
 receipt_by l b t =
-    cond t (record { line = []; heard = heard_line l }) (record { line = l ++ (b ∷ []); heard = Character })
+    cond t (record { line = []; heard = heard_line l }) (record { line = l ++ (b ∷ []); heard = None })
 
 -- What is said of a call x after h.
 pub record Undisturbed (s : ℕ) (h : List Call) (x : Call) : Type 0 where
@@ -66,7 +65,7 @@ module _ (s : ℕ) (h : List Call) (b : ℕ) (d : List ℕ) (e : Undisturbed s h
   long = lent (state s h) b (outcome_of (state s h) (receive (state s h).line b).heard) (is_short d) e.taken
 
   -- What it is by what the receiver hears.
-  heard_as : (x : Heard) → (receive (state s h).line b).heard ≡ x → outcome (state s h) b d ≡ outcome_of (state s h) x
+  heard_as : (x : Option Line) → (receive (state s h).line b).heard ≡ x → outcome (state s h) b d ≡ outcome_of (state s h) x
   heard_as x q = (λ i. cond (long i) untaken (outcome_of (state s h) (q i)))
 
   called_as : (o : Outcome) → outcome (state s h) b d ≡ o
@@ -93,15 +92,15 @@ module _ (s : ℕ) (h : List Call) (b : ℕ) (d : List ℕ) (e : Undisturbed s h
       joins false = refl
 
   -- A character.
-  pub gathers : (receive (state s h).line b).heard ≡ Character → Unstopped (state s h)
+  pub gathers : (receive (state s h).line b).heard ≡ None → Unstopped (state s h)
       → Leaves (state s h) (state s (byte b d ∷ h)) (state s h).next (λ k. pos 0)
   gathers q u =
-      idles (state s h) (state s (byte b d ∷ h)) _ _ _ _ _ (called_as gathered (heard_as Character q))
+      idles (state s h) (state s (byte b d ∷ h)) _ _ _ _ _ (called_as gathered (heard_as None q))
       (fits s (byte b d ∷ h)).move.within refl refl e.unstopped u refl
 
   -- The end of a line: no number turns its command away.
-  module _ (silent : Bool) (ident : Ident) (c : Command) (digits : ℕ)
-      (q : (receive (state s h).line b).heard ≡ Line silent ident (Accepted c digits)) where
+  module _ (silent : Bool) (ident : Option ℕ) (c : Command) (digits : ℕ)
+      (q : (receive (state s h).line b).heard ≡ line_heard silent ident (accepting c digits)) where
     no_number : number (state s h) c ≡ 0
     no_number = by_test (eqb (number (state s h) c) 0) refl
         (ap (λ (o : Outcome). not (eqb (answered (state s h) b o).number 0)) (sym (heard_as _ q)) ∙ e.taken)
@@ -129,7 +128,7 @@ module _ (s : ℕ) (h : List Call) (b : ℕ) (d : List ℕ) (e : Undisturbed s h
     no_line = next_line ∙ by_end (eqb b end_byte) q
       where
         by_end : (t : Bool)
-            → (receipt_by (state s h).line b t).heard ≡ Line silent ident (Accepted c digits)
+            → (receipt_by (state s h).line b t).heard ≡ line_heard silent ident (accepting c digits)
             → (receipt_by (state s h).line b t).line ≡ []
         by_end true f = refl
         by_end false f = absurd (false≢true (ap is_line f))

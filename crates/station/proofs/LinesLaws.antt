@@ -1,4 +1,6 @@
 -- Calls whose bytes are the lines of plain commands, with ticks between them: what they leave. Assumes nothing.
+use Rattle.receiver.specs.declared.Line.{Line}
+use Rattle.std.proofs.Common.{Option, None}
 use Prim.Native.Nat.{ℕ, zero, suc, ◌-◌, ◌<◌}
 use mathlib.Core.Bool.{Bool, true, false, ◌&&◌, false≢true}
 use mathlib.Core.List.{List, [], ◌∷◌, ◌++◌}
@@ -7,8 +9,6 @@ use borrow.Author.Tests.{not-true}
 use lib.IntN.{ℤ, pos, ◌+ℤ◌, +ℤ_idr, +ℤ_idl, +ℤ_assoc}
 use lib.ListN.{length, get_or}
 use Rattle.laws.proofs.Tests.{both}
-use Rattle.receiver.specs.declared.Heard.{Heard}
-use Rattle.receiver.specs.declared.Heard.TheVariants.{Character}
 use Rattle.receiver.specs.Receiver.{receive}
 use Rattle.machine.specs.State.{Plan, Machine}
 use Rattle.machine.specs.Calls.{Call, byte, tick, state}
@@ -50,11 +50,11 @@ abbrev is_empty : {A : Type 0} → List A → Bool
 is_empty [] = true
 is_empty (x ∷ xs) = false
 
-ended_some : (n : ℕ) (x : Heard) → is_empty (ended_after n x) ≡ false
+ended_some : (n : ℕ) (x : Option Line) → is_empty (ended_after n x) ≡ false
 ended_some zero x = refl
 ended_some (suc n) x = refl
 
-none_ends : {A : Type 0} (n : ℕ) (x : Heard) → [] ≡ ended_after n x → A
+none_ends : {A : Type 0} (n : ℕ) (x : Option Line) → [] ≡ ended_after n x → A
 none_ends n x e = absurd (false≢true (sym (ended_some n x) ∙ ap is_empty (sym e)))
 
 none_some : {A B : Type 0} (x : B) (l : List B) → [] ≡ x ∷ l → A
@@ -112,7 +112,7 @@ hears : (s : ℕ) (h : List Call) (c : ℕ) (r : Request) (x : ℕ) {l m : List 
     → heard_all (state s h).line (x ∷ []) ≡ ended_after zero (heard_as r (digits_of r.command))
     → (receive (state s h).line c).heard ≡ heard_as r (digits_of r.command)
 hears s h c r x b g =
-    (λ i. (receive (state s h).line (ap (λ (o : List ℕ). get_or o 0 0) b i)).heard) ∙ ap (head_or Character) g
+    (λ i. (receive (state s h).line (ap (λ (o : List ℕ). get_or o 0 0) b i)).heard) ∙ ap (head_or None) g
 
 ended : (s : ℕ) (h : List Call) (c : ℕ) (d : List ℕ) → Undisturbed s h (byte c d) → (r : Request) (x : ℕ)
     {l m : List ℕ} → c ∷ l ≡ x ∷ m
@@ -158,7 +158,7 @@ in_line s h (byte c d ∷ f) r (x ∷ q) (suc n) rs k l b g p ps e u =
     let y = undisturbed s h (byte c d) f e in
     let same = ap (λ (o : List ℕ). get_or o 0 0) b in
     let hears = (λ i. heard_all (state s h).line (same i ∷ q)) ∙ g in
-    let v = gathers s h c d y.0 (ap (head_or Character) hears) u in
+    let v = gathers s h c d y.0 (ap (head_or None) hears) u in
     then_same (state s h) (state s (byte c d ∷ h)) _ (λ o. total (r ∷ rs) o k) k l v
     (in_line s (byte c d ∷ h) f r q n rs k l (ap tail b)
     (ap (λ (o : List ℕ). heard_all o q) (next_line s h c d y.0) ∙ ap tail hears) p ps y.1 v.unstopped)

@@ -1,14 +1,34 @@
 -- A row of bytes taken apart at a mark: rows without the mark, joined by it, are its parts; and every row is its parts
 -- so joined. Assumes nothing.
+use Rattle.std.specs.Str.{bytes_eq}
 use Prim.Native.Nat.{ℕ, suc, ◌+◌}
 use native.Mathlib.Omega.{arith}
-use mathlib.Core.Bool.{Bool, true, false, cond, false≢true}
+use mathlib.Core.Bool.{Bool, true, false, cond, ◌&&◌, false≢true}
 use mathlib.Core.List.{List, [], ◌∷◌, ◌++◌}
 use mathlib.Core.Path.{◌≡◌, refl, sym, ap, ◌∙◌}
-use borrow.Author.Tests.{eq-eqb, eqb-true}
+use borrow.Author.Tests.{eq-eqb, ne_eqb, eqb-true, eqb-false}
 use lib.Dec.{eqb}
 use Rattle.receiver.specs.Receiver.{before}
 use Rattle.text.specs.Parts.{behind, part, marks, parts, same}
+
+-- What the library's search compares: the row that is looked for comes second.
+swapped : (x y : ℕ) → eqb x y ≡ eqb y x
+swapped x y = when (eqb x y) refl
+  where
+    when : (t : Bool) → eqb x y ≡ t → t ≡ eqb y x
+    when true e = sym (eq-eqb y x (sym (eqb-true x y e)))
+    when false e = sym (ne_eqb y x (λ (q : y ≡ x). eqb-false x y e (sym q)))
+
+pub equal_back : (a b : List ℕ) → bytes_eq a b ≡ same b a
+unfolding same
+equal_back [] [] = refl
+equal_back [] (y ∷ ys) = refl
+equal_back (x ∷ xs) [] = refl
+equal_back (x ∷ xs) (y ∷ ys) = when _ _ _ _ (swapped x y) (equal_back xs ys)
+  where
+    when : (t u a b : Bool) → t ≡ u → a ≡ b → t && a ≡ cond u b false
+    when true u a b e f = rw (sym e) f
+    when false u a b e f = rw (sym e)
 
 -- Rows that are the same are equal.
 pub same_equal : (a b : List ℕ) → same a b ≡ true → a ≡ b

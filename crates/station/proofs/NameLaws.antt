@@ -1,66 +1,50 @@
--- The names in one row of bytes, a line feed behind each: the k-th part of it is the k-th name. Assumes nothing.
-use Prim.Native.Nat.{ℕ, zero, suc, ◌+◌, ◌≤◌, ◌<◌}
+-- Whether a table has a name: what the library's search for it says. Assumes nothing.
+use Rattle.std.specs.List.{list_any}
+use Rattle.std.specs.Str.{bytes_eq}
+use Prim.Native.Nat.{ℕ}
 use Prim.Native.String.{String}
-use native.Mathlib.Omega.{arith}
-use native.Mathlib.Numerals.{add-one}
-use mathlib.Core.Bool.{Bool, true, false, cond, false≢true}
-use mathlib.Core.List.{List, [], ◌∷◌, ◌++◌}
-use mathlib.Core.Path.{◌≡◌, refl, ap, ◌∙◌}
-use borrow.Author.Tests.{eqb-true}
-use lib.Dec.{eqb}
-use lib.ListN.{length, get_or, drop, drop_of_length-le}
-use lib.Seq.{drop-cons}
-use Rattle.receiver.specs.Receiver.{before}
-use Rattle.text.specs.Parts.{behind, part, marks, same}
+use mathlib.Core.Bool.{Bool, true, false, cond, ◌||◌}
+use mathlib.Core.List.{List, [], ◌∷◌}
+use mathlib.Core.Path.{◌≡◌, refl, sym, ◌∙◌}
+use Rattle.text.specs.Parts.{same}
 use Rattle.machine.specs.Calls.{chars}
-use Rattle.station.specs.Names.{names, is_among}
-use Rattle.station.proofs.MarkLaws.{before_joined, behind_joined}
+use Rattle.station.specs.Names.{is_among}
+use Rattle.station.proofs.MarkLaws.{equal_back}
 
--- Names, each with a line feed (10) behind it.
-abbrev pub rows : List String → List ℕ
-rows [] = []
-rows (n ∷ ns) = chars n ++ (10 ∷ rows ns)
+module _ (w : List ℕ) where
+  -- The search through a table of the names' letters.
+  abbrev pub found : List String → Bool
+  found ns = list_any (λ (n : String). bytes_eq (chars n) w) ns
 
--- None of them has one in it.
-unfoldable are_feedless : List String → Bool
-are_feedless [] = true
-are_feedless (n ∷ ns) = cond (eqb (marks 10 (chars n)) 0) (are_feedless ns) false
+  one_more : (a b c d : Bool) → a ≡ b → c ≡ d → a || c ≡ cond b true d
+  one_more true b c d e f = rw (sym e)
+  one_more false b c d e f = rw (sym e) f
 
-feedless_first : (n : String) (ns : List String) → are_feedless (n ∷ ns) ≡ true
-    → (marks 10 (chars n) ≡ 0) × (are_feedless ns ≡ true)
-unfolding are_feedless
-feedless_first n ns h = when (eqb (marks 10 (chars n)) 0) (eqb-true _ 0) h
-  where
-    when : (t : Bool) → (t ≡ true → marks 10 (chars n) ≡ 0) → cond t (are_feedless ns) false ≡ true
-        → (marks 10 (chars n) ≡ 0) × (are_feedless ns ≡ true)
-    when true f e = (f refl, e)
-    when false f e = absurd (false≢true e)
-
-row_at : (ns : List String) → are_feedless ns ≡ true → (k : ℕ) → k < length ns
-    → part 10 k (rows ns) ≡ chars (get_or ns k "")
-unfolding behind
-row_at [] h k p = absurd (omega arith)
-row_at (n ∷ ns) h zero p = before_joined 10 (rows ns) (chars n) (feedless_first n ns h).0
-row_at (n ∷ ns) h (suc k) p =
-    ap (before (λ c. eqb c 10)) (behind_joined 10 (rows ns) k (chars n) (feedless_first n ns h).0)
-    ∙ row_at ns (feedless_first n ns h).1 k (omega arith)
-
--- ---- The names from place k on
-
-feedless : are_feedless names ≡ true
-unfolding are_feedless marks names
-feedless = refl
-
-short : {k : ℕ} → k < 39 → k < length names
-unfolding names
-short h = h
-
-module _ (w : List ℕ) (k : ℕ) where
-  pub name_here : k < 39
-      → is_among (drop k names) w ≡ cond (same w (part 10 k (rows names))) true (is_among (drop (k + 1) names) w)
+  pub found_is : (ns : List String) → found ns ≡ is_among ns w
   unfolding is_among
-  name_here h = rw (drop-cons names k "" (short h), add-one k, row_at names feedless k (short h))
+  found_is [] = refl
+  found_is (n ∷ ns) = one_more _ _ _ _ (equal_back (chars n) w) (found_is ns)
 
-  pub name_end : 39 ≤ k → is_among (drop k names) w ≡ false
-  unfolding is_among names
-  name_end h = rw (drop_of_length-le names h)
+  abbrev is : String → Bool
+  is n = same w (chars n)
+
+  pub found_two : (m n : String) → found (m ∷ n ∷ []) ≡ is m || is n
+  unfolding is_among
+  found_two m n = found_is (m ∷ n ∷ []) ∙ when (is m) (is n)
+    where
+      when : (a b : Bool) → cond a true (cond b true false) ≡ a || b
+      when true b = refl
+      when false true = refl
+      when false false = refl
+
+  pub found_four : (k m n o : String) → found (k ∷ m ∷ n ∷ o ∷ []) ≡ is k || (is m || (is n || is o))
+  unfolding is_among
+  found_four k m n o = found_is (k ∷ m ∷ n ∷ o ∷ []) ∙ when (is k) (is m) (is n) (is o)
+    where
+      when : (a b c d : Bool)
+          → cond a true (cond b true (cond c true (cond d true false))) ≡ a || (b || (c || d))
+      when true b c d = refl
+      when false true c d = refl
+      when false false true d = refl
+      when false false false true = refl
+      when false false false false = refl

@@ -1,16 +1,14 @@
 -- Commands and what comes of them, computed: they pin each choice of the converter (paper 02, 8/14; source document
 -- 001). `convert` promises `Examples`.
-use Rattle.std.specs.Prelude.{ℕ, Bool, true, false, List, [], ◌∷◌, ◌++◌, ◌≡◌, length}
+use Rattle.std.specs.Prelude.{ℕ, Bool, true, false, List, [], ◌∷◌, ◌++◌, ◌≡◌, length, None}
 use Prim.Native.String.{String}
-use Rattle.digits.specs.declared.Ident.TheVariants.{Absent}
 use Rattle.line.specs.declared.command.Command.{Command}
 use Rattle.line.specs.declared.command.Command.TheVariants.{Distance, Set, Start, Order, Read}
 use Rattle.line.specs.declared.command.Reading.TheVariants.{Status}
 use Rattle.machine.specs.Calls.{chars}
 use Rattle.host.specs.declared.Request.{Request}
-use Rattle.station.specs.declared.Converted.{Converted}
 use Rattle.station.specs.Names.{names}
-use Rattle.station.specs.Station.{number_of, values_in, convert_of}
+use Rattle.station.specs.Station.{number_of, values_in, Converted, convert_of}
 
 -- ---- How the rows below are written
 
@@ -20,7 +18,7 @@ sent s = chars s ++ (0 ∷ [])
 
 -- A command value that asks for a reply and carries no identification.
 abbrev pub plain : Command → Request
-plain c = record { silent = false; command = c; ident = Absent }
+plain c = record { silent = false; command = c; ident = None }
 
 -- The six of a move: axes 0 and 1 with their signs and lengths, three still axes, the start of a master.
 abbrev pub six : Bool → ℕ → Bool → ℕ → ℕ → List Request

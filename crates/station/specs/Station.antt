@@ -1,13 +1,14 @@
 -- The converter (paper 02, 8/14): from a command of the MD5230D to command values for the writer, or 27 to 29.
-use Rattle.std.specs.Prelude.{ℕ, ◌-◌, ◌*◌, Bool, true, false, cond, not, ◌&&◌, ◌||◌, List, [], ◌∷◌, ◌++◌, ltb, eqb, ℤ, nat_abs, length, replicate}
+use Rattle.std.specs.Prelude.{ℕ, ◌-◌, ◌*◌, Bool, true, false, cond, not, ◌&&◌, ◌||◌, List, [], ◌∷◌, ◌++◌, ltb, eqb, ℤ, nat_abs, length, replicate, None, Result, Ok, Err}
 use Rattle.laws.specs.Axes.{is_minus}
-use Rattle.digits.specs.declared.Ident.TheVariants.{Absent}
 use Rattle.line.specs.declared.command.Command.{Command}
 use Rattle.line.specs.declared.command.Command.TheVariants as C
 use Rattle.line.specs.declared.command.Reading.TheVariants as R
 use Rattle.host.specs.Master.{master_of}
 use Rattle.host.specs.declared.Request.{Request}
-use Rattle.station.specs.declared.Converted.{Converted}
+use Rattle.station.specs.declared.Refusal.{Refusal}
+use Rattle.station.specs.declared.Refusal.TheVariants.{Unknown, Lacked, OutOfRange}
+use Rattle.station.specs.declared.Requests.{Requests}
 use Rattle.station.specs.Names.{is_listed}
 use Rattle.station.specs.Forms.{Form, other, speed, move, stop, is_ours, name_of, form_of}
 
@@ -15,7 +16,7 @@ use Rattle.station.specs.Forms.{Form, other, speed, move, stop, is_ours, name_of
 
 -- Each asks for a reply and carries no identification.
 abbrev pub asks : Command → Request
-asks c = record { silent = false; command = c; ident = Absent }
+asks c = record { silent = false; command = c; ident = None }
 
 -- A distance of an axis: 0 is plus.
 abbrev pub distance : ℕ → ℤ → Request
@@ -86,5 +87,24 @@ unused = asks (C.Read R.Status)
 abbrev pub places : List Request → List Request
 places rs = rs ++ replicate (6 - length rs) unused
 
+-- What comes of a command: a number that turns it away, or 0; how many command values there are; they come first of the
+-- six, in order.
+pub record Converted : Type 0 where
+  pub number : ℕ
+  pub count : ℕ
+  pub requests : List Request
+
 unfoldable pub convert_of : List ℕ → Converted
 convert_of l = record { number = number_of l; count = length (values_in l); requests = places (values_in l) }
+
+-- ---- What the code answers
+
+abbrev pub refusal_number : Refusal → ℕ
+refusal_number Unknown = 27
+refusal_number Lacked = 28
+refusal_number OutOfRange = 29
+
+-- Command values have the number 0. A refusal has its number and no command value: all six places are unused.
+abbrev pub answer : Result Requests Refusal → Converted
+answer (Ok r) = record { number = 0; count = r.count; requests = r.requests }
+answer (Err refusal) = record { number = refusal_number refusal; count = 0; requests = places [] }

@@ -4,7 +4,7 @@ ghost use Rattle.std.specs.Prelude.{◌≡◌};
 ghost use Rattle.station.specs.Forms.{text_of, name_of, is_ours};
 ghost use Rattle.station.specs.Names.{is_listed};
 
-use text::{FEED, SPACE, parts};
+use text::{SPACE, parts};
 
 // [NULL], which ends a command.
 pub(crate) const NULL: u8 = 0;
@@ -23,43 +23,27 @@ pub(crate) fn name_of(command: &[u8]) -> &[u8]
     parts::part(text_of(command), SPACE, 0)
 }
 
-// How many names there are.
-const COUNT: usize = 39;
-
-// Each with a line feed behind it, in that table's order.
-const NAMES: [u8; 156] = *b"PRG\nPSP\nEDP\nPRS\nPSE\n\
-    ABS\nABB\nINC\nICB\nABA\nICA\nCNT\nHOM\nHMB\nSST\nIST\n\
-    LNI\nCWI\nCCW\n\
-    SPD\nHOF\nHON\nSLP\nSRP\nSAP\n\
-    SPG\nRLP\nRRP\nROT\nRIN\nRDR\nRPE\nRVR\n\
-    OUT\nOTP\nSSP\nPST\nRST\nERS\n";
+// The names, in that table's order.
+const NAMES: [&[u8]; 39] = [
+    b"PRG", b"PSP", b"EDP", b"PRS", b"PSE", b"ABS", b"ABB", b"INC", b"ICB", b"ABA", b"ICA", b"CNT",
+    b"HOM", b"HMB", b"SST", b"IST", b"LNI", b"CWI", b"CCW", b"SPD", b"HOF", b"HON", b"SLP", b"SRP",
+    b"SAP", b"SPG", b"RLP", b"RRP", b"ROT", b"RIN", b"RDR", b"RPE", b"RVR", b"OUT", b"OTP", b"SSP",
+    b"PST", b"RST", b"ERS",
+];
 
 // Whether a name is one of them.
 pub(crate) fn is_listed(name: &[u8]) -> bool
     ensures { result ≡ is_listed name.now }
 {
-    let mut k = 0;
-    while k < COUNT {
-        if parts::same(name, parts::part(&NAMES, FEED, k)) {
-            return true;
-        }
-        k += 1;
-    }
-    false
+    NAMES.contains(&name)
 }
 
-// Whether it is one of the four that we convert.
+// The four that we convert.
+const OURS: [&[u8]; 4] = [b"SPD", b"INC", b"LNI", b"SST"];
+
+// Whether a name is one of these.
 pub(crate) fn is_ours(name: &[u8]) -> bool
     ensures { result ≡ is_ours name.now }
 {
-    if parts::same(name, b"SPD") {
-        return true;
-    }
-    if parts::same(name, b"INC") {
-        return true;
-    }
-    if parts::same(name, b"LNI") {
-        return true;
-    }
-    parts::same(name, b"SST")
+    OURS.contains(&name)
 }

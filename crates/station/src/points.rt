@@ -6,7 +6,8 @@ use numerals::Signed;
 use text::{SPACE, parts};
 
 // A distance in pulses: 0 is plus, and a size from 4,294,967,295 on counts as that.
-#[derive(Drop)]
+// Not `Signed` of numerals: -0 is plus.
+#[derive(Clone, Copy)]
 pub(crate) struct Distance {
     pub(crate) minus: bool,
     pub(crate) size: u32,
@@ -18,38 +19,23 @@ pub(crate) const STILL: Distance = Distance {
     size: 0,
 };
 
-// What stands for an axis: its distance, or something else.
-#[derive(Drop)]
-pub(crate) enum Point {
-    Other,
-    At(Distance),
-}
-
 // The distance that a number with its sign is; -0 is plus.
-fn measured(n: Signed) -> Point
+fn measured(n: Signed) -> Distance
     ensures { result ≡ measured_of n }
 {
-    match n {
-        Signed::Not => Point::Other,
-        Signed::Number { minus, size } => {
-            if size == 0 {
-                return Point::At(STILL);
-            }
-            Point::At(Distance { minus, size })
-        }
+    Distance {
+        minus: n.minus && n.size != 0,
+        size: n.size,
     }
 }
 
 // A text of two words more than k, the first of these two an axis, the second a distance.
-pub(crate) fn point_in(t: &[u8], k: usize, axis: &[u8]) -> Point
+pub(crate) fn point_in(t: &[u8], k: usize, axis: &[u8]) -> Option<Distance>
     requires { k ≤ 1 }
     ensures { result ≡ point_of k axis.now t.now }
 {
-    if parts::parts(t, SPACE) != k + 2 {
-        return Point::Other;
+    if parts::parts(t, SPACE) != k + 2 || parts::part(t, SPACE, k) != axis {
+        return None;
     }
-    if !parts::same(parts::part(t, SPACE, k), axis) {
-        return Point::Other;
-    }
-    measured(numerals::read_signed(parts::part(t, SPACE, k + 1)))
+    numerals::read_signed(parts::part(t, SPACE, k + 1)).map(measured)
 }

@@ -1,12 +1,11 @@
--- Bytes written one after another: in two parts or at once, to a text held of a list, from a slice one by one, and a
--- number's digits. Assumes nothing.
+-- Bytes written one after another: in two parts or at once, to a text held of a list, one by one, and a number's digits. Assumes nothing.
+use Rattle.std.specs.List.{fold}
 use Prim.Native.Nat.{ℕ, min, ◌+◌, ◌/◌, ◌%◌, ◌≤◌, ◌<◌}
-use native.Mathlib.Numerals.{add-one}
-use mathlib.Core.Bool.{Bool, true, false}
+use mathlib.Core.Bool.{Bool, true}
 use mathlib.Core.List.{List, [], ◌∷◌, ◌++◌, append-nil}
 use mathlib.Core.Path.{◌≡◌, refl, sym, ap, ◌∙◌}
-use lib.ListN.{length, get_or, take}
-use lib.Seq.{take-length, take-suc, append_snoc}
+use lib.ListN.{length}
+use lib.Seq.{append_snoc}
 use Rattle.laws.proofs.Pick.{by_le}
 use Rattle.receiver.proofs.KeepLaws.{full_chars, full_count, room_chars, room_count}
 use Rattle.text.specs.declared.Text.{Text}
@@ -33,6 +32,9 @@ pub writes_one : (t : Text) (b : ℕ) → push_of t b ≡ writes t (b ∷ [])
 unfolding writes
 writes_one t b = refl
 
+-- With these the check finds alone what a chain of writes comes to.
+pub ruleset parts = (writes_append, writes_none, writes_one)
+
 -- One byte behind those written.
 pub writes_last : {t r : Text} (s : Text) (a : List ℕ) (b : ℕ) → t ≡ writes s a → r ≡ push_of t b
     → r ≡ writes s (a ++ (b ∷ []))
@@ -53,17 +55,12 @@ writes_holding l [] = ap holding (sym (append-nil l))
 writes_holding l (b ∷ s) =
     ap (λ (t : Text). writes t s) (push_holding l b) ∙ writes_holding (l ++ (b ∷ [])) s ∙ ap holding (append_snoc l b s)
 
--- ---- from a slice, one by one
+-- ---- one by one
 
-pub taken_one : {t r : Text} (s : Text) (cs : List ℕ) (i : ℕ) → i < length cs → t ≡ writes s (take i cs)
-    → r ≡ push_of t (get_or cs i 0) → r ≡ writes s (take (i + 1) cs)
-taken_one s cs i h p q =
-    writes_last s (take i cs) (get_or cs i 0) p q
-    ∙ ap (writes s) (sym (ap (λ (n : ℕ). take n cs) (add-one i) ∙ take-suc cs i 0 h))
-
-pub taken_all : {r : Text} (s : Text) (cs : List ℕ) (i : ℕ) → i ≡ length cs → r ≡ writes s (take i cs)
-    → r ≡ writes s cs
-taken_all s cs i n p = p ∙ ap (writes s) (ap (λ (j : ℕ). take j cs) n ∙ take-length cs)
+pub writes_folded : (t : Text) (bs : List ℕ) → fold push_of t bs ≡ writes t bs
+unfolding writes
+writes_folded t [] = refl
+writes_folded t (b ∷ bs) = writes_folded (push_of t b) bs
 
 -- ---- the digits of a number
 
@@ -80,7 +77,3 @@ pub with_sign : {t r : Text} (s : Text) (minus : Bool) (n : ℕ) → minus ≡ t
 with_sign s minus n e p q =
     q ∙ ap (λ (x : Text). writes x (decimal_of n)) (p ∙ writes_one s 45) ∙ writes_append s (45 ∷ []) (decimal_of n)
     ∙ ap (λ (m : Bool). writes s (sign_text m n)) (sym e)
-
-pub no_sign : {r : Text} (s : Text) (minus : Bool) (n : ℕ) → minus ≡ false → r ≡ writes s (decimal_of n)
-    → r ≡ writes s (sign_text minus n)
-no_sign s minus n e p = p ∙ ap (λ (m : Bool). writes s (sign_text m n)) (sym e)

@@ -5,6 +5,10 @@ use Rattle.text.specs.declared.Text.{Text}
 abbrev pub holding : List ℕ → Text
 holding l = record { chars = take 250 l ++ replicate (250 - length l) 0; count = min 250 (length l) }
 
+-- Its bytes, as many as it counts; none where it counts more than it has.
+abbrev pub bytes_of : Text → List ℕ
+bytes_of t = cond (leb t.count (length t.chars)) (take t.count t.chars) []
+
 -- ---- The same on what is held, for every value: one byte more, and bytes one after another.
 
 abbrev pub push_of : Text → ℕ → Text

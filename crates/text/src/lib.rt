@@ -6,7 +6,7 @@ ghost use Rattle.std.specs.Prelude.{[], ◌≡◌};
 ghost use Rattle.digits.specs.Digits.{six_of};
 ghost use Rattle.text.specs.Decimal.{decimal_of, sign_text};
 ghost use Rattle.text.specs.Parts.{part};
-ghost use Rattle.text.specs.Text.{holding, push_of, writes};
+ghost use Rattle.text.specs.Text.{bytes_of, holding, push_of, writes};
 
 pub mod parts;
 
@@ -14,12 +14,13 @@ pub mod parts;
 pub const ROOM: usize = 250;
 
 // The line feed, which ends a line and a row of a table.
-pub const FEED: u8 = 10;
+pub const FEED: u8 = b'\n';
 
 // A space, which stands between two words.
-pub const SPACE: u8 = 32;
+pub const SPACE: u8 = b' ';
 
-// A text: its bytes, zeros after them, and their count. From 250 bytes on no more are taken.
+// A text: its bytes, zeros after them, and their count, in fixed memory, since this project has no heap. From 250 bytes
+// on no more are taken.
 #[derive(Clone, Copy)]
 pub struct Text {
     pub chars: [u8; ROOM],
@@ -37,46 +38,40 @@ impl Text {
         }
     }
 
+    // Its bytes; none where it counts more than there are, which no text does that is made here.
+    pub fn bytes(&self) -> &[u8]
+        ensures { result.now ≡ bytes_of self.now }
+    {
+        self.chars.get(..usize::from(self.count)).unwrap_or(&[])
+    }
+
     // One byte more.
-    pub fn with(self, b: u8) -> Text
+    pub fn with(mut self, b: u8) -> Text
         ensures { result ≡ push_of self b }
     {
-        let count = self.count;
-        if 250 <= count {
-            return self;
+        if usize::from(self.count) < ROOM {
+            self.chars[usize::from(self.count)] = b;
+            self.count += 1;
         }
-        let mut chars = self.chars;
-        let at = count as usize;
-        chars[at] = b;
-        Text {
-            chars,
-            count: count + 1,
-        }
+        self
     }
 
     // Bytes one after another.
     pub fn characters(self, cs: &[u8]) -> Text
         ensures { result ≡ writes self cs.now }
     {
-        let mut next = self;
-        let mut i = 0;
-        while i < cs.len() {
-            let more = next.with(cs[i]);
-            next = more;
-            i += 1;
-        }
-        next
+        cs.iter().fold(self, |text, &c| text.with(c))
     }
 
-    // A number in decimal.
+    // A number in decimal, digit by digit: `write!` would give a `Result` that never fails for each caller to let go.
     pub fn decimal(self, n: u32) -> Text
         ensures { result ≡ writes self (decimal_of n) }
     {
         if n < 10 {
-            return self.with(48 + n as u8);
+            self.with(b'0' + n as u8)
+        } else {
+            self.decimal(n / 10).with(b'0' + (n % 10) as u8)
         }
-        let high = self.decimal(n / 10);
-        high.with(48 + (n % 10) as u8)
     }
 
     // A number in decimal, with a minus sign before it or without.
@@ -84,18 +79,17 @@ impl Text {
         ensures { result ≡ writes self (sign_text minus n) }
     {
         if minus {
-            let sign = self.with(45);
-            return sign.decimal(n);
+            self.with(b'-').decimal(n)
+        } else {
+            self.decimal(n)
         }
-        self.decimal(n)
     }
 
     // The six hexadecimal digits of the low 24 bits, in capitals.
     pub fn six(self, n: u32) -> Text
         ensures { result ≡ writes self (six_of n) }
     {
-        let digits = digits::six_capitals(n);
-        self.characters(&digits)
+        self.characters(&digits::six_capitals(n))
     }
 
     // A row of a table, whose rows have line feeds between them.

@@ -1,5 +1,5 @@
 -- What the private functions of ticking.rt do: a means of proof.
-use Rattle.std.specs.Prelude.{ℕ, ◌-◌, cond, eqb}
+use Rattle.std.specs.Prelude.{ℕ, cond, eqb}
 use Rattle.machine.specs.State.{Machine}
 use Rattle.machine.specs.Steps as steps
 use Rattle.controller.specs.Held.{held, is_end}
@@ -9,10 +9,6 @@ use Rattle.trial.specs.Trial.{after_ticks, first_of, end_of}
 -- One tick, the n-th, by the end before it and the machine's answer.
 abbrev pub ticked_of : ℕ → ℕ → steps.TickAnswer → Ticked
 ticked_of before n a = record { controller = held a.machine; end = first_of before (is_end a.entry) n }
-
--- The ticks left behind one.
-abbrev pub left_of : ℕ → ℕ → ℕ
-left_of left end = cond (eqb end 0) (left - 1) 0
 
 -- So many; and how many there are of n: all, or those to the end.
 abbrev pub ran_of : Machine → ℕ → ℕ → Ticked

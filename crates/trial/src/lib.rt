@@ -26,6 +26,7 @@ pub const LAST_AXIS: u32 = 4;
 
 // What would be left: five positions and five travels; the tick of the end, counted from 1, or 0 where it is not
 // reached; and the number that turns the trial away, or 0. With a number all else is 0.
+// C reads it, hence arrays side by side, 0 for no end, and a number and no Result.
 #[repr(C)]
 #[derive(Clone, Copy)]
 pub struct Trial {
@@ -56,8 +57,7 @@ fn start(c: Controller, master: u32) -> ByteAnswer
 {
     let copy = c.without_line();
     let line = [b'Q', b'0', b'8', b'0' + master as u8];
-    let gathered = copy.gather(&line);
-    let ready = gathered.controller;
+    let ready = copy.gather(&line).controller;
     let mut buf = [0u8; REPLY_ROOM];
     ready.byte(&mut buf, END)
 }
@@ -67,9 +67,8 @@ fn shown(ran: Ticked) -> Trial
     requires { Reachable ran.controller }
     ensures { Made ran.controller (λ m. result ≡ shown m ran.end) }
 {
-    let left = ran.controller;
-    let positions = left.signed_positions();
-    let travels = left.travels();
+    let positions = ran.controller.signed_positions();
+    let travels = ran.controller.travels();
     Trial {
         positions,
         travels,
@@ -105,7 +104,5 @@ pub fn temixohuel_trial(c: Controller, master: u32, word: u32, ticks: u32) -> Tr
     if start.number != 0 {
         return turned(start.number);
     }
-    let begun = start.controller;
-    let ran = ticking::run(begun, word, ticks);
-    shown(ran)
+    shown(ticking::run(start.controller, word, ticks))
 }

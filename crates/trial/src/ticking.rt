@@ -1,15 +1,16 @@
 // So many ticks with one input word, and the tick in which the move ends (paper 02, 5/14). Assumes nothing.
-ghost use Rattle.std.specs.Prelude.{◌≤◌, ◌<◌, ◌≡◌, length};
+ghost use Rattle.std.specs.Prelude.{◌≤◌, ◌≡◌, length};
 ghost use Rattle.machine.specs.Steps.{tick_step};
 ghost use Rattle.machine.specs.Calls.{buffer};
 ghost use Rattle.controller.specs.Reach.{Reachable, Made};
 ghost use Rattle.trial.specs.Trial.{first_of};
-ghost use Rattle.trial.specs.Ticking.{ticked_of, left_of, ran_of, last_of};
+ghost use Rattle.trial.specs.Ticking.{ticked_of, ran_of, last_of};
 
 use block::REPLY_ROOM;
 use controller::Controller;
 
 // The controller after some ticks, and which of them, counted from 1, was the first that ended a move; 0 for none.
+// 0 as `Trial` has it: an Option would be turned back at once.
 #[derive(Drop)]
 pub(crate) struct Ticked {
     pub(crate) controller: Controller,
@@ -21,12 +22,12 @@ fn first(end: u32, ends: bool, n: u32) -> u32
     ensures { result ≡ first_of end ends n }
 {
     if end != 0 {
-        return end;
+        end
+    } else if ends {
+        n
+    } else {
+        0
     }
-    if ends {
-        return n;
-    }
-    0
 }
 
 // One tick, the n-th.
@@ -35,22 +36,11 @@ fn tick(was: Ticked, buf: &mut [u8], word: u32, n: u32) -> Ticked
     requires in_bounds { 120 ≤ length buf.old }
     ensures { Made was.controller (λ m. result ≡ ticked_of was.end n (tick_step m word buffer)) }
 {
-    let before = was.controller;
-    let a = before.tick(buf, word);
-    let end = first(was.end, a.ended, n);
-    let controller = a.controller;
-    Ticked { controller, end }
-}
-
-// How many ticks are left behind one: none once the move has ended.
-fn left_behind(left: u32, end: u32) -> u32
-    requires { 0 < left }
-    ensures { result ≡ left_of left end }
-{
-    if end == 0 {
-        return left - 1;
+    let a = was.controller.tick(buf, word);
+    Ticked {
+        controller: a.controller,
+        end: first(was.end, a.ended, n),
     }
-    0
 }
 
 // So many ticks, or as many as it takes to the end: those behind it alter nothing that is shown (`Rest`). They are lent
@@ -64,13 +54,11 @@ pub(crate) fn run(c: Controller, word: u32, count: u32) -> Ticked
         controller: c,
         end: 0,
     };
-    let mut n = 0;
-    let mut left = count;
-    while 0 < left {
-        n += 1;
-        let next = tick(ran, &mut buf, word, n);
-        left = left_behind(left, next.end);
-        ran = next;
+    for n in 0..count {
+        ran = tick(ran, &mut buf, word, n + 1);
+        if ran.end != 0 {
+            break;
+        }
     }
     ran
 }

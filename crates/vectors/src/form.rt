@@ -1,18 +1,18 @@
 // The form of a line, and the numbers in its fields.
 ghost use Rattle.std.specs.Prelude.{◌≤◌};
 
+use crate::texts;
+use crate::texts::Text;
 use digits::Digit;
 
 // The most bytes that a line has side by side.
-pub(crate) const MOST: usize = 48;
+const MOST: usize = 48;
 
-// The value of a capital hexadecimal digit, or 16.
-fn value(c: u8) -> u8 {
-    let digit = digits::read_digit(c);
-    match digit {
-        Digit::Other => 16,
-        Digit::Capital(v) => v,
-        Digit::Small(_) => 16,
+// The value of a capital hexadecimal digit.
+fn value(c: u8) -> Option<u8> {
+    match digits::read_digit(c) {
+        Some(Digit::Capital(v)) => Some(v),
+        _ => None,
     }
 }
 
@@ -20,68 +20,67 @@ fn value(c: u8) -> u8 {
 // A, `g` a sign or N, `p` a sign; any other stands for itself.
 fn allows(letter: u8, c: u8) -> bool {
     match letter {
-        b'h' => value(c) < 16,
-        b'd' => value(c) < 8,
-        b'f' => c == b'0' || c == b'1',
-        b'k' => c == b'V' || c == b'A',
-        b'g' => c == b'+' || c == b'-' || c == b'N',
-        b'p' => c == b'+' || c == b'-',
+        b'h' => value(c).is_some(),
+        b'd' => matches!(c, b'0'..=b'7'),
+        b'f' => matches!(c, b'0' | b'1'),
+        b'k' => matches!(c, b'V' | b'A'),
+        b'g' => matches!(c, b'+' | b'-' | b'N'),
+        b'p' => matches!(c, b'+' | b'-'),
         _ => c == letter,
     }
 }
 
 // Whether a line has a form, character by character.
 pub(crate) fn fits(line: &[u8], form: &[u8]) -> bool {
-    if line.len() != form.len() {
-        return false;
-    }
-    let mut i = 0;
-    while i < form.len() {
-        if !allows(form[i], line[i]) {
-            return false;
-        }
-        i += 1;
-    }
-    true
+    line.len() == form.len() && form.iter().zip(line).all(|(&letter, &c)| allows(letter, c))
 }
 
 // The character at a place; 0 where there is none.
 pub(crate) fn at(line: &[u8], place: usize) -> u8 {
-    if line.len() <= place {
-        return 0;
-    }
-    line[place]
+    line.get(place).copied().unwrap_or(0)
 }
 
 // The number with one digit more; eight digits fit.
 fn join(n: u32, c: u8) -> u32 {
-    n % 268435456 * 16 + (value(c) % 16) as u32
+    n << 4 | u32::from(value(c).unwrap_or(0))
 }
 
-// The number of the digits from a place up to another.
+// The number of the digits from a place up to another. By places and no slice: a digit that is absent reads as 0.
 pub(crate) fn number(line: &[u8], from: usize, end: usize) -> u32 {
-    let mut n = 0;
-    for i in from..end {
-        n = join(n, at(line, i));
-    }
-    n
+    (from..end).fold(0, |n, i| join(n, at(line, i)))
 }
 
 // Two digits from a place on.
 pub(crate) fn byte(line: &[u8], at: usize) -> u8 {
-    if 100 <= at {
-        return 0;
-    }
-    (number(line, at, at + 2) % 256) as u8
+    (number(line, at, at.saturating_add(2)) % 256) as u8
 }
 
-// Two digits each from a place on, zeros after the line's last.
-pub(crate) fn bytes(line: &[u8], from: usize) -> [u8; MOST]
+// Two digits each from a place on, zeros after the line's last, in fixed memory, for this project has no heap.
+fn bytes(line: &[u8], from: usize) -> [u8; MOST]
     requires { from ≤ 100 }
 {
-    let mut bytes = [0u8; MOST];
-    for i in 0..MOST {
-        bytes[i] = byte(line, 2 * i + from);
+    let mut bytes = [0; MOST];
+    for (i, b) in bytes.iter_mut().enumerate() {
+        *b = byte(line, 2 * i + from);
     }
     bytes
+}
+
+// The answer to a line's bytes, two digits each from a place on: as many as the line has, which else is of no form. The
+// form is that of the longest line.
+pub(crate) fn row<F: FnOnce(&[u8]) -> Text>(
+    line: &[u8],
+    form: &[u8],
+    from: usize,
+    answer: F,
+) -> Text
+    requires from_in_bounds { from ≤ 100 }
+    requires callable { F.IsAlwaysCallable answer }
+{
+    let n = line.len();
+    if n < from || (n - from) % 2 != 0 || !fits(line, block::front(form, n)) {
+        return texts::question();
+    }
+    let bytes = bytes(line, from);
+    answer(block::front(&bytes, (n - from) / 2))
 }

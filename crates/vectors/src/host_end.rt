@@ -1,21 +1,21 @@
 // The host end and the journal on one line of the page.
+use crate::input::Lines;
 use crate::texts::Text;
 use crate::{blocks, digests, form, journal_lines, pairs, settings, station_lines, writer};
 
 // The master picker.
 fn master(line: &[u8]) -> Text {
-    let distances = [
-        form::number(line, 2, 10),
-        form::number(line, 11, 19),
-        form::number(line, 20, 28),
-        form::number(line, 29, 37),
-        form::number(line, 38, 46),
-    ];
-    Text::new().hex(host::pick_master(distances) as u64, 1)
+    let distances = [2, 11, 20, 29, 38].map(|at: usize| form::number(
+        line,
+        at,
+        at.saturating_add(8),
+    ));
+    Text::new().hex(u64::from(host::pick_master(distances)), 1)
 }
 
 // What a line is answered.
-pub(crate) fn answer(line: &[u8]) -> Text {
+fn answer(line: &[u8]) -> Text {
+    // A chain and no table of functions: they differ in what they take.
     if form::fits(line, b"W hh f hh hh f hhhhhhhh hh") {
         return writer::answer(line, true);
     }
@@ -50,4 +50,14 @@ pub(crate) fn answer(line: &[u8]) -> Text {
         return station_lines::answer(line);
     }
     blocks::answer(line)
+}
+
+// The page's lines, one by one.
+#[derive(Drop)]
+pub(crate) struct HostEnd;
+
+impl Lines for HostEnd {
+    fn take(&mut self, rt: &impl Print, line: &[u8]) {
+        answer(line).print(rt);
+    }
 }

@@ -1,161 +1,58 @@
-// A file, line by line: each is given to the program that runs.
+// A file, line by line: each is given to what runs on lines.
 ghost use Rattle.std.specs.Prelude.{◌≤◌, length};
 
-use crate::lists::List;
+use crate::texts;
 use crate::texts::FEED;
-use crate::{host_end, lists, texts};
 use std::io::Read;
-
-// The buffer for the bytes of a read.
-const ROOM: usize = 4096;
 
 // The most characters of a line.
 const LONGEST: usize = 100;
 
-// Which program runs.
-#[derive(Clone, Copy)]
-pub(crate) enum Program {
-    Lists,
-    HostEnd,
+// What runs on lines.
+pub(crate) trait Lines: Drop {
+    fn take(&mut self, rt: &impl Print, line: &[u8]);
 }
 
-// The list so far, and the characters of the line so far with their count: one more than the most for a longer line.
-#[derive(Clone, Copy)]
-struct Stand {
-    list: List,
+// What runs, and the characters of the line so far with their count, one more than the most for a longer line, in fixed
+// memory, for this project has no heap.
+#[derive(Drop)]
+struct Stand<L> {
+    lines: L,
     chars: [u8; LONGEST],
     length: usize,
 }
 
-// Where the input stands after a read, and whether there may be more to read.
-#[derive(Drop)]
-struct Turn {
-    stand: Stand,
-    more: bool,
-}
+impl<L: Lines> Stand<L> {
+    // The end of a line.
+    fn end_line(&mut self, rt: &impl Print) {
+        if LONGEST < self.length {
+            texts::question().print(rt);
+        } else {
+            let line = block::front(&self.chars, self.length);
+            if line.first().is_some_and(|&b| b != b'#') {
+                self.lines.take(rt, line);
+            }
+        }
+        self.length = 0;
+    }
 
-// A whole line.
-fn take_line(
-    rt: &impl Print,
-    program: Program,
-    list: List,
-    calls: &mut [u8; lists::ROOM],
-    line: &[u8],
-) -> List {
-    if line.len() == 0 {
-        return list;
-    }
-    if line[0] == b'#' {
-        return list;
-    }
-    match program {
-        Program::Lists => lists::take(rt, list, calls, line),
-        Program::HostEnd => {
-            host_end::answer(line).print(rt);
-            list
+    fn take(&mut self, rt: &impl Print, b: u8) {
+        if b == FEED {
+            self.end_line(rt);
+        } else if let Some(place) = self.chars.get_mut(self.length) {
+            *place = b;
+            self.length += 1;
+        } else {
+            self.length = LONGEST + 1;
         }
     }
-}
 
-// The end of a line.
-fn end_line(
-    rt: &impl Print,
-    program: Program,
-    stand: Stand,
-    calls: &mut [u8; lists::ROOM],
-) -> List {
-    let list = stand.list;
-    let n = stand.length;
-    if LONGEST < n {
-        texts::question().print(rt);
-        return list;
-    }
-    let chars = stand.chars;
-    take_line(rt, program, list, calls, block::front(&chars, n))
-}
-
-fn take_byte(
-    rt: &impl Print,
-    program: Program,
-    stand: Stand,
-    calls: &mut [u8; lists::ROOM],
-    b: u8,
-) -> Stand {
-    let mut next = stand;
-    let n = stand.length;
-    if b == FEED {
-        let list = end_line(rt, program, stand, calls);
-        next.list = list;
-        next.length = 0;
-        return next;
-    }
-    if LONGEST <= n {
-        next.length = LONGEST + 1;
-        return next;
-    }
-    next.chars[n] = b;
-    next.length = n + 1;
-    next
-}
-
-fn take_all(
-    rt: &impl Print,
-    program: Program,
-    was: Stand,
-    calls: &mut [u8; lists::ROOM],
-    bytes: &[u8],
-) -> Stand {
-    let mut stand = was;
-    let mut i = 0;
-    while i < bytes.len() {
-        let next = take_byte(rt, program, stand, calls, bytes[i]);
-        stand = next;
-        i += 1;
-    }
-    stand
-}
-
-// Reads once, and takes what came.
-fn read_once(
-    rt: &impl Print,
-    program: Program,
-    file: &mut impl Read,
-    stand: Stand,
-    calls: &mut [u8; lists::ROOM],
-) -> Turn {
-    let mut buf = [0u8; ROOM];
-    let Ok(n) = file.read(&mut buf) else {
-        return Turn { stand, more: false };
-    };
-    if n == 0 {
-        return Turn { stand, more: false };
-    }
-    let next = take_all(rt, program, stand, calls, &buf[..n]);
-    Turn {
-        stand: next,
-        more: true,
-    }
-}
-
-// Reads to the end. A proved loop has to end, and nothing says that the input does: it has a number of turns that no
-// run uses up.
-fn read_all(
-    rt: &impl Print,
-    program: Program,
-    file: &mut impl Read,
-    was: Stand,
-    calls: &mut [u8; lists::ROOM],
-) -> Stand {
-    let mut stand = was;
-    for _ in 0..u64::MAX {
-        let t = read_once(rt, program, file, stand, calls);
-        let next = t.stand;
-        stand = next;
-        if !t.more {
-            return stand;
+    // The bytes of a read, one after another.
+    fn pass(&mut self, rt: &impl Print, bytes: &[u8]) {
+        for &b in bytes {
+            self.take(rt, b);
         }
     }
-    stand
 }
 
 // Reads until `buf` is full, the input ends or a read fails, and answers how many bytes it put at the start of `buf`.
@@ -163,6 +60,7 @@ pub(crate) fn read_full(file: &mut impl Read, buf: &mut [u8]) -> usize
     ensures { result ≤ length buf.new }
 {
     let mut done = 0;
+    // No call of the library reads so: `read_exact` does not tell how much of a shorter input it put there.
     while done < buf.len() {
         let n = file.read(&mut buf[done..]).unwrap_or(0);
         if n == 0 {
@@ -173,19 +71,16 @@ pub(crate) fn read_full(file: &mut impl Read, buf: &mut [u8]) -> usize
     done
 }
 
-// The whole input; its last line may lack the line feed.
-pub(crate) fn run(rt: &impl Print, program: Program, file: &mut impl Read) {
-    let mut calls = [0u8; lists::ROOM];
-    let list = List {
-        count: 0,
-        first: 0,
-        last: 0,
-    };
-    let fresh = Stand {
-        list,
+// The whole input; its last line may lack the line feed. A read that fails ends it too.
+pub(crate) fn run<L: Lines>(rt: &impl Print, lines: L, file: &mut impl Read) {
+    let mut stand = Stand {
+        lines,
         chars: [0; LONGEST],
         length: 0,
     };
-    let stand = read_all(rt, program, file, fresh, &mut calls);
-    end_line(rt, program, stand, &mut calls);
+    let _ = turns::read_all(file, (), |_: (), bytes: &[u8]| {
+        stand.pass(rt, bytes);
+        Ok(())
+    });
+    stand.end_line(rt);
 }

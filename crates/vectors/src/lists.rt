@@ -1,153 +1,139 @@
 // Lists of calls: gathered in the nine bytes of `replay`, then played to a fresh controller for each switch.
-ghost use Rattle.std.specs.Prelude.{◌+◌, ◌≤◌};
-
+use crate::input::Lines;
 use crate::texts::Text;
 use crate::{form, texts};
 use digits::END;
 
-// The most calls, and their bytes.
+// The most calls.
 const MOST: usize = 4096;
-
-pub(crate) const ROOM: usize = 36864;
-
-// The kinds of call.
-const TICKS: u8 = 0;
-
-const BYTE: u8 = 1;
-
-const READINGS: u8 = 2;
-
-const TICK: u8 = 3;
 
 // The buffer lent with each byte of a line.
 const LENT: u8 = 120;
 
-// How many calls are gathered, and the first and the last switch.
+// A call: ticks with an input word, a received byte with so many bytes lent, the readings, one tick with so many lent.
 #[derive(Clone, Copy)]
+enum Call {
+    Ticks { word: u32, count: u32 },
+    Byte { byte: u8, lent: u8 },
+    Readings,
+    Tick { word: u32, lent: u8 },
+}
+
+impl Call {
+    // The kind, and two numbers of four bytes, the low one first.
+    fn bytes(self) -> [u8; 9] {
+        let (kind, value, count) = match self {
+            Call::Ticks { word, count } => (0, word, count),
+            Call::Byte { byte, lent } => (1, u32::from(byte), u32::from(lent)),
+            Call::Readings => (2, 0, 0),
+            Call::Tick { word, lent } => (3, word, u32::from(lent)),
+        };
+        let [a, b, c, d] = value.to_le_bytes();
+        let [e, f, g, h] = count.to_le_bytes();
+        [kind, a, b, c, d, e, f, g, h]
+    }
+}
+
+// The calls, of which so many are gathered, in fixed memory, for this project has no heap; the first and the last switch.
+#[derive(Drop)]
 pub(crate) struct List {
-    pub(crate) count: usize,
-    pub(crate) first: u8,
-    pub(crate) last: u8,
+    calls: [[u8; 9]; MOST],
+    count: usize,
+    first: u8,
+    last: u8,
 }
 
-// Four bytes of a call, the low one first.
-fn store(calls: &mut [u8; ROOM], at: usize, v: u32)
-    requires { at + 4 ≤ 36864 }
-{
-    calls[at] = (v % 256) as u8;
-    calls[at + 1] = (v / 256 % 256) as u8;
-    calls[at + 2] = (v / 65536 % 256) as u8;
-    calls[at + 3] = (v / 16777216) as u8;
-}
-
-// One call more.
-fn gather(
-    rt: &impl Print,
-    list: List,
-    calls: &mut [u8; ROOM],
-    kind: u8,
-    value: u32,
-    count: u32,
-) -> List {
-    let n = list.count;
-    if MOST <= n {
-        texts::question().print(rt);
-        return list;
-    }
-    let at = 9 * n;
-    calls[at] = kind;
-    store(calls, at + 1, value);
-    store(calls, at + 5, count);
-    List {
-        count: n + 1,
-        first: list.first,
-        last: list.last,
-    }
-}
-
-// A received byte with so many bytes lent.
-fn gather_byte(rt: &impl Print, list: List, calls: &mut [u8; ROOM], b: u8, lent: u8) -> List {
-    gather(rt, list, calls, BYTE, b as u32, lent as u32)
-}
-
-// The characters of a line and its 0D as received bytes.
-fn gather_line(rt: &impl Print, was: List, calls: &mut [u8; ROOM], line: &[u8]) -> List {
-    let mut list = was;
-    let mut i = 0;
-    while i < line.len() {
-        let next = gather_byte(rt, list, calls, line[i], LENT);
-        list = next;
-        i += 1;
-    }
-    gather_byte(rt, list, calls, END, LENT)
-}
-
-// A line `L text`, or one of no form. The 0D is one call more than the text has characters.
-fn take_text(rt: &impl Print, list: List, calls: &mut [u8; ROOM], line: &[u8]) -> List {
-    let n = list.count;
-    if 2 < line.len() {
-        if line[0] == b'L' && line[1] == b' ' {
-            if n <= MOST {
-                if line.len() - 1 <= MOST - n {
-                    return gather_line(rt, list, calls, &line[2..]);
-                }
-            }
+impl List {
+    pub(crate) fn new() -> List {
+        List {
+            calls: [[0; 9]; MOST],
+            count: 0,
+            first: 0,
+            last: 0,
         }
     }
-    texts::question().print(rt);
-    list
+
+    // One call more.
+    fn gather(&mut self, rt: &impl Print, call: Call) {
+        match self.calls.get_mut(self.count) {
+            Some(place) => {
+                *place = call.bytes();
+                self.count += 1;
+            }
+            None => texts::question().print(rt),
+        }
+    }
+
+    // The characters of a line and its 0D as received bytes.
+    fn gather_line(&mut self, rt: &impl Print, text: &[u8]) {
+        for &byte in text {
+            self.gather(rt, Call::Byte { byte, lent: LENT });
+        }
+        self.gather(
+            rt,
+            Call::Byte {
+                byte: END,
+                lent: LENT,
+            },
+        );
+    }
+
+    // A line `L text`, or one of no form. The 0D is one call more than the text has characters.
+    fn take_text(&mut self, rt: &impl Print, line: &[u8]) {
+        match line {
+            [b'L', b' ', text @ ..]
+                if !text.is_empty() && text.len() < MOST.saturating_sub(self.count) => {
+                self.gather_line(rt, text)
+            }
+            _ => texts::question().print(rt),
+        }
+    }
+
+    // The list played for each of its switches.
+    fn play(&self, rt: &impl Print) {
+        let calls = self.calls.get(..self.count).unwrap_or(&[]);
+        for switch in self.first..=self.last {
+            let digest = replay::temixohuel_replay(switch, calls.as_flattened());
+            Text::new()
+                .byte(switch)
+                .with(b' ')
+                .hex(u64::from(digest), 8)
+                .print(rt);
+        }
+    }
 }
 
-fn play_each(rt: &impl Print, calls: &[u8], first: u8, last: u8) {
-    for switch in first..=last {
-        let digest = replay::temixohuel_replay(switch, calls);
-        Text::new()
-            .byte(switch)
-            .with(b' ')
-            .hex(digest as u64, 8)
-            .print(rt);
+impl Lines for List {
+    // A line of the page.
+    fn take(&mut self, rt: &impl Print, line: &[u8]) {
+        // A chain and no table: each form has fields of its own.
+        if form::fits(line, b"B hh hh") {
+            let byte = form::byte(line, 2);
+            self.gather(
+                rt,
+                Call::Byte {
+                    byte,
+                    lent: form::byte(line, 5),
+                },
+            );
+        } else if form::fits(line, b"T hhhhhh hhhhhhhh") {
+            let word = form::number(line, 9, 17);
+            let count = form::number(line, 2, 8);
+            self.gather(rt, Call::Ticks { word, count });
+        } else if form::fits(line, b"K hhhhhhhh hh") {
+            let word = form::number(line, 2, 10);
+            let lent = form::byte(line, 11);
+            self.gather(rt, Call::Tick { word, lent });
+        } else if form::fits(line, b"S hh hh") {
+            self.count = 0;
+            self.first = form::byte(line, 2);
+            self.last = form::byte(line, 5);
+        } else if form::fits(line, b"R") {
+            self.gather(rt, Call::Readings);
+        } else if form::fits(line, b"E") {
+            self.play(rt);
+        } else {
+            self.take_text(rt, line);
+        }
     }
-}
-
-// The list played for each of its switches.
-fn play(rt: &impl Print, list: List, calls: &[u8]) {
-    let n = list.count;
-    if n <= MOST {
-        play_each(rt, block::front(calls, 9 * n), list.first, list.last);
-    }
-}
-
-// A line that begins a list, gathers the readings or plays; or one of another form.
-fn take_other(rt: &impl Print, list: List, calls: &mut [u8; ROOM], line: &[u8]) -> List {
-    if form::fits(line, b"S hh hh") {
-        return List {
-            count: 0,
-            first: form::byte(line, 2),
-            last: form::byte(line, 5),
-        };
-    }
-    if form::fits(line, b"R") {
-        return gather(rt, list, calls, READINGS, 0, 0);
-    }
-    if form::fits(line, b"E") {
-        play(rt, list, calls);
-        return list;
-    }
-    take_text(rt, list, calls, line)
-}
-
-// A line of the page.
-pub(crate) fn take(rt: &impl Print, list: List, calls: &mut [u8; ROOM], line: &[u8]) -> List {
-    if form::fits(line, b"B hh hh") {
-        return gather_byte(rt, list, calls, form::byte(line, 2), form::byte(line, 5));
-    }
-    if form::fits(line, b"T hhhhhh hhhhhhhh") {
-        let word = form::number(line, 9, 17);
-        return gather(rt, list, calls, TICKS, word, form::number(line, 2, 8));
-    }
-    if form::fits(line, b"K hhhhhhhh hh") {
-        let word = form::number(line, 2, 10);
-        return gather(rt, list, calls, TICK, word, form::byte(line, 11) as u32);
-    }
-    take_other(rt, list, calls, line)
 }

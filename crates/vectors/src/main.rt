@@ -7,7 +7,8 @@
 
 ghost use Rattle.std.specs.Prelude.{◌≤◌, length};
 
-use crate::input::Program;
+use crate::host_end::HostEnd;
+use crate::lists::List;
 use crate::texts::Text;
 use session::Session;
 use std::env::{Env, FillError};
@@ -38,29 +39,20 @@ const ROOM: usize = 65536;
 fn play_session(rt: &impl Print, file: &mut impl Read) {
     let mut bytes = [0u8; ROOM];
     let n = input::read_full(file, &mut bytes);
-    let start = Session::new();
-    let passed = console::pass_all(rt, start, &bytes[..n]);
-    let session = passed.session;
+    let passed = console::pass_all(rt, Session::new(), &bytes[..n]);
     let mut buf = [0u8; block::REPLY_ROOM];
-    let last = session.finish(&mut buf);
+    let last = passed.session.finish(&mut buf);
     let _ = rt.write_all(block::front(&buf, last.length));
 }
 
 // What a word asks for. An unknown word is a line of no form.
 fn play(rt: &impl Print, word: &[u8], file: &mut impl Read) {
-    if form::fits(word, b"session") {
-        play_session(rt, file);
-        return;
+    match word {
+        b"session" => play_session(rt, file),
+        b"lists" => input::run(rt, List::new(), file),
+        b"vectors" => input::run(rt, HostEnd, file),
+        _ => texts::question().print(rt),
     }
-    if form::fits(word, b"lists") {
-        input::run(rt, Program::Lists, file);
-        return;
-    }
-    if form::fits(word, b"vectors") {
-        input::run(rt, Program::HostEnd, file);
-        return;
-    }
-    texts::question().print(rt);
 }
 
 // A named file, after a line with its name.
@@ -97,7 +89,7 @@ fn play_pair(rt: &HostRuntime, i: usize, j: usize) {
     let m = argument(rt, i, &mut word);
     let mut name = [0u8; LONGEST];
     let n = argument(rt, j, &mut name);
-    if form::fits(&name[..n], b"-") {
+    if matches!(&name[..n], b"-") {
         play(rt, &word[..m], &mut rt.stdin());
         return;
     }
@@ -107,6 +99,7 @@ fn play_pair(rt: &HostRuntime, i: usize, j: usize) {
 // How many arguments there are, the program's own name among them.
 fn argument_count(rt: &impl Env) -> usize {
     let mut buf = [0u8; LONGEST];
+    // The number of the first argument that is not there is the answer.
     for i in 0..usize::MAX {
         if let Err(FillError::NotPresent) = rt.arg(i, &mut buf) {
             return i;

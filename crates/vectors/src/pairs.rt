@@ -5,15 +5,10 @@ use figures::Figures;
 
 // The pair of figures of a controller of switch 0 that got these bytes.
 fn pair_after(bytes: &[u8]) -> Figures {
-    let on = controller::power_on(0);
-    let mut controller = on.controller;
-    let mut buf = [0u8; block::REPLY_ROOM];
-    let mut i = 0;
-    while i < bytes.len() {
-        let answer = controller.byte(&mut buf, bytes[i]);
-        let next = answer.controller;
-        controller = next;
-        i += 1;
+    let mut controller = controller::power_on(0).controller;
+    let mut buf = [0; block::REPLY_ROOM];
+    for &b in bytes {
+        controller = controller.byte(&mut buf, b).controller;
     }
     figures::figures_of(controller)
 }
@@ -21,6 +16,7 @@ fn pair_after(bytes: &[u8]) -> Figures {
 // The lines P08 and P09 with the two fields' digits.
 fn both_lines(line: &[u8]) -> [u8; 18] {
     let mut bytes = *b"P08.....\rP09.....\r";
+    // Two fields filled in one pass; an absent character reads as 0 (form::at), so that no slice is taken.
     for i in 0..5 {
         bytes[i + 3] = form::at(line, i + 2);
         bytes[i + 12] = form::at(line, i + 8);
@@ -30,8 +26,7 @@ fn both_lines(line: &[u8]) -> [u8; 18] {
 
 // `G`: the pair of figures of a controller that got both settings.
 pub(crate) fn answer(line: &[u8]) -> Text {
-    let lines = both_lines(line);
-    let pair = pair_after(&lines);
+    let pair = pair_after(&both_lines(line));
     let told = settings::with_figure(Text::new(), pair.speed).with(b' ');
     settings::with_figure(told, pair.slope)
 }

@@ -7,6 +7,8 @@ const ROOM: usize = 160;
 // The line feed, which ends a line.
 pub(crate) const FEED: u8 = 10;
 
+// The characters so far: a count of them beside fixed memory, for this project has no heap. It is no text of crate text,
+// which has more room: it would print more of a file's name of over 157 characters, and what is printed may not change.
 #[derive(Drop)]
 pub(crate) struct Text {
     bytes: [u8; ROOM],
@@ -24,57 +26,42 @@ impl Text {
     // One character more.
     pub(crate) fn with(mut self, b: u8) -> Text {
         let at = self.length;
-        if ROOM <= at {
-            return self;
+        if let Some(place) = self.bytes.get_mut(at) {
+            *place = b;
+            self.length += 1;
         }
-        self.bytes[at] = b;
-        self.length = at + 1;
         self
     }
 
-    // So many hexadecimal digits.
-    pub(crate) fn hex(self, v: u64, count: u64) -> Text
+    // So many hexadecimal digits. By hand: write! would give a Result that never fails.
+    pub(crate) fn hex(mut self, v: u64, count: u32) -> Text
         requires { count ≤ 16 }
     {
-        let mut text = self;
-        let mut left = count;
-        while 0 < left {
-            left -= 1;
-            let digit = (v >> (4 * left)) % 16;
-            let next = text.with(digits::capital(digit as u8));
-            text = next;
+        for k in (0..count).rev() {
+            self = self.with(digits::capital((v >> (4 * k) & 15) as u8));
         }
-        text
+        self
     }
 
     // A byte, two digits.
     pub(crate) fn byte(self, b: u8) -> Text {
-        self.hex(b as u64, 2)
+        self.hex(u64::from(b), 2)
     }
 
-    // A number of the paper, two decimal digits.
+    // A number of the paper, two decimal digits, by hand too.
     pub(crate) fn number(self, n: u8) -> Text {
         self.with(b'0' + n / 10 % 10).with(b'0' + n % 10)
     }
 
     // Characters as they are.
     pub(crate) fn characters(self, s: &[u8]) -> Text {
-        let mut text = self;
-        let mut i = 0;
-        while i < s.len() {
-            let next = text.with(s[i]);
-            text = next;
-            i += 1;
-        }
-        text
+        s.iter().fold(self, |text, &b| text.with(b))
     }
 
     // Written to standard output with a line feed.
     pub(crate) fn print(self, rt: &impl Print) {
         let line = self.with(FEED);
-        let bytes = line.bytes;
-        let printed = block::front(&bytes, line.length);
-        let _ = rt.write_all(printed);
+        let _ = rt.write_all(block::front(&line.bytes, line.length));
     }
 }
 

@@ -1,10 +1,7 @@
 // The writer on a line `W hh h hh hh h hhhhhhhh ii`.
-ghost use Rattle.std.specs.Prelude.{◌≤◌};
-
 use crate::texts::Text;
 use crate::{form, texts};
-use digits::Ident;
-use host::{Request, Written};
+use host::Request;
 use line::command::{Command, Reading};
 
 // The longest buffer of a line or a journal, and what each of its bytes is before.
@@ -15,7 +12,7 @@ pub(crate) const BEFORE: u8 = 90;
 // The highest number of a command in the page's table.
 const LAST: u8 = 18;
 
-// A command by its number in the page's table; the last for each number past it.
+// A command by its number in the page's table (docs/VECTORS.md); the last for each number past it.
 fn command_of(number: u8, axis: u8, flag: bool, value: u32) -> Command {
     match number {
         0 => Command::Distance {
@@ -52,17 +49,10 @@ fn command_of(number: u8, axis: u8, flag: bool, value: u32) -> Command {
 
 // Bytes, two digits each, after a space; nothing where there is none.
 fn with_bytes(text: Text, s: &[u8]) -> Text {
-    if s.len() == 0 {
+    if s.is_empty() {
         return text;
     }
-    let mut told = text.with(b' ');
-    let mut i = 0;
-    while i < s.len() {
-        let next = told.byte(s[i]);
-        told = next;
-        i += 1;
-    }
-    told
+    s.iter().fold(text.with(b' '), |told, &b| told.byte(b))
 }
 
 // The number and the length, or the place, that a writer answers, then the whole buffer.
@@ -73,63 +63,40 @@ pub(crate) fn told(number: u8, length: usize, buf: &[u8]) -> Text {
 
 // The line of a request without its 0D, behind some characters; or the number that refuses it.
 pub(crate) fn with_line(text: Text, before: &[u8], request: Request) -> Text {
-    let mut buf = [0u8; 10];
-    let written = host::write_line(&mut buf, request);
-    match written {
-        Written::Refused(k) => text.number(k),
-        Written::Length(n) => {
-            if n == 0 {
-                return text.number(0);
-            }
-            text.characters(before)
-                .characters(block::front(&buf, n - 1))
-        }
+    let mut buf = [0; 10];
+    match host::write_line(&mut buf, request) {
+        Err(error) => text.number(u8::from(error)),
+        Ok(0) => text.number(0),
+        Ok(n) => text
+            .characters(before)
+            .characters(block::front(&buf, n - 1)),
     }
 }
 
 fn written(buf: &mut [u8], request: Request) -> Text {
-    let answer = host::write_line(buf, request);
-    match answer {
-        Written::Length(n) => told(0, n, buf),
-        Written::Refused(k) => told(k, 0, buf),
+    match host::write_line(buf, request) {
+        Ok(n) => told(0, n, buf),
+        Err(error) => told(u8::from(error), 0, buf),
     }
-}
-
-// The writer with so long a line buffer.
-fn lent(room: usize, request: Request) -> Text
-    requires { room ≤ 64 }
-{
-    let mut buf = [BEFORE; ROOM];
-    written(&mut buf[..room], request)
-}
-
-fn ident_of(line: &[u8], given: bool) -> Ident {
-    if given {
-        return Ident::Given(form::byte(line, 24));
-    }
-    Ident::Absent
 }
 
 fn request_of(line: &[u8], number: u8, given: bool) -> Request {
     let flag = form::at(line, 13) == b'1';
     let value = form::number(line, 15, 23);
-    let command = command_of(number, form::byte(line, 10), flag, value);
-    let ident = ident_of(line, given);
     Request {
         silent: form::at(line, 5) == b'1',
-        command,
-        ident,
+        command: command_of(number, form::byte(line, 10), flag, value),
+        ident: given.then_some(form::byte(line, 24)),
     }
 }
 
+// `W`: a line written into so long a buffer.
 pub(crate) fn answer(line: &[u8], given: bool) -> Text {
-    let room = form::byte(line, 2) as usize;
-    if ROOM < room {
-        return texts::question();
-    }
+    let room = usize::from(form::byte(line, 2));
     let number = form::byte(line, 7);
-    if LAST < number {
-        return texts::question();
+    let mut buf = [BEFORE; ROOM];
+    match buf.get_mut(..room) {
+        Some(buf) if number <= LAST => written(buf, request_of(line, number, given)),
+        _ => texts::question(),
     }
-    lent(room, request_of(line, number, given))
 }

@@ -1,4 +1,5 @@
 -- Lists without a line feed, by their parts: bytes before a mark, numbers, and the writer's lines. Assumes nothing.
+use Rattle.std.proofs.Common.{Option, None, Some}
 use Prim.Native.Nat.{ℕ, zero, suc, ◌+◌, ◌/◌, ◌%◌}
 use native.Mathlib.Omega.{arith}
 use mathlib.Core.Bool.{Bool, true, false, cond, ◌&&◌, false≢true}
@@ -8,8 +9,6 @@ use borrow.Author.Tests.{ne_eqb, eqb-true}
 use lib.Dec.{ltb, eqb}
 use Rattle.laws.proofs.Pick.{by_bool}
 use Rattle.digits.specs.Digits.{four_digits, five_digits, end_byte, digit_of, capital_of, six_of}
-use Rattle.digits.specs.declared.Ident.{Ident}
-use Rattle.digits.specs.declared.Ident.TheVariants.{Absent, Given}
 use Rattle.block.specs.Block.{ident_chars, block_of}
 use Rattle.line.specs.Codes.{is_query}
 use Rattle.line.specs.Line.{is_ident}
@@ -118,10 +117,10 @@ six n =
 
 -- ---- an identification, and the writer's lines
 
-pub named : (ident : Ident) → ident_fits ident ≡ true → Clean (ident_chars ident)
+pub named : (ident : Option ℕ) → ident_fits ident ≡ true → Clean (ident_chars ident)
 unfolding is_line
-named Absent e = refl
-named (Given c) e = when (eqb c 10) refl
+named None e = refl
+named (Some c) e = when (eqb c 10) refl
   where
     when : (t : Bool) → eqb c 10 ≡ t → cond t false true ≡ true
     when true q =
@@ -145,7 +144,7 @@ unfolding is_line
 query_clean true = refl
 query_clean false = refl
 
-full_clean : (silent : Bool) (c : Command) (ident : Ident) → ident_fits ident ≡ true
+full_clean : (silent : Bool) (c : Command) (ident : Option ℕ) → ident_fits ident ≡ true
     → Clean (full_of silent (letter_of c) (digits_of c) ident)
 unfolding is_line block_of
 full_clean silent c ident e =

@@ -1,4 +1,5 @@
 -- The examples of docs/PROTOCOL.md, computed. Assumes nothing.
+use Rattle.std.proofs.Common.{None}
 use Prim.Native.Nat.{ℕ}
 use Prim.Native.String.{String}
 use native.Mathlib.Omega.{arith}
@@ -6,7 +7,6 @@ use mathlib.Core.Bool.{false}
 use mathlib.Core.List.{List}
 use mathlib.Core.Path.{refl, ap}
 use Rattle.line.specs.declared.command.Command.TheVariants.{Set}
-use Rattle.digits.specs.declared.Ident.TheVariants.{Absent}
 use Rattle.machine.specs.Calls.{chars}
 use Rattle.digits.specs.Digits.{six_of, number_of}
 use Rattle.receiver.specs.Receiver.{before}
@@ -40,7 +40,7 @@ use Rattle.wording.proofs.TrialRowLaws.{trials}
 
 -- What is printed for a figure whose units crate figures has read: what it reads is no matter of computing.
 abbrev asked : String → ℕ → Answer ℕ → List ℕ
-asked l code units = request_text false Absent (chars l) (asked_meant (asks (Set code) units))
+asked l code units = request_text false None (chars l) (asked_meant (asks (Set code) units))
 
 commands : CommandRows
 unfolding master_of six_of number_of before behind marks same common spell decimal_of read_on noughts sentences states

@@ -1,4 +1,5 @@
 -- No answer to a reply has a line feed within it. Assumes nothing.
+use Rattle.std.proofs.Common.{Option, None, Some}
 use Prim.Native.Nat.{ℕ, ◌%◌}
 use mathlib.Core.Bool.{Bool, true, cond}
 use mathlib.Core.List.{List, [], ◌∷◌, ◌++◌}
@@ -8,8 +9,6 @@ use lib.IntN.{ℤ, nat_abs}
 use Rattle.laws.specs.Axes.{is_minus}
 use Rattle.laws.specs.Bits.{bit}
 use Rattle.digits.specs.Digits.{end_byte, capital_of, six_of}
-use Rattle.digits.specs.declared.Ident.{Ident}
-use Rattle.digits.specs.declared.Ident.TheVariants.{Absent, Given}
 use Rattle.block.specs.Block.{ident_chars}
 use Rattle.line.specs.Codes.{code, five, second}
 use Rattle.host.specs.Writer.{ident_fits}
@@ -44,16 +43,16 @@ use Rattle.wording.proofs.WordLineLaws.{turned}
 
 -- ---- replies
 
-origin : (s : ℕ) (ident : Ident) → ident_fits ident ≡ true → Clean (origin_text s ident)
+origin : (s : ℕ) (ident : Option ℕ) → ident_fits ident ≡ true → Clean (origin_text s ident)
 unfolding is_line
 origin s ident e =
     join (switch_text s) (ident_text ident)
     (either (eqb s 0) [] (chars " (switch " ++ (capital_of s ∷ chars ")")) refl
     (one (capital_of s) (chars ")") (capital s) refl)) (known ident e)
   where
-    known : (i : Ident) → ident_fits i ≡ true → is_line (ident_text i) ≡ true
-    known Absent e = refl
-    known (Given c) e = join (ident_chars (Given c)) (chars ")") (named (Given c) e) refl
+    known : (i : Option ℕ) → ident_fits i ≡ true → is_line (ident_text i) ≡ true
+    known None e = refl
+    known (Some c) e = join (ident_chars (Some c)) (chars ")") (named (Some c) e) refl
 
 verdict : (n : ℕ) → Clean (verdict_text n)
 verdict n = either (eqb n 0) (sentence_text 0) (turned_text n) (row 0 sentences) (turned n)

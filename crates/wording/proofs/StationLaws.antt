@@ -1,4 +1,5 @@
 -- Which lines are no commands of a station: reply blocks, and words that mean something. Assumes nothing.
+use Rattle.std.proofs.Common.{Ok, Err}
 use Prim.Native.Nat.{ℕ, zero, suc}
 use native.Mathlib.Omega.{arith}
 use mathlib.Core.Bool.{Bool, true, false, cond, false≢true}
@@ -12,9 +13,7 @@ use Rattle.reader.specs.Reader.{Figures}
 use Rattle.reader.specs.Blocks.{Says}
 use Rattle.text.specs.Parts.{behind, part, same}
 use Rattle.sentences.specs.Sentences.{keywords, word_count, place_in, place_of}
-use Rattle.phrases.specs.declared.meaning.Meant.{Meant}
-use Rattle.phrases.specs.declared.meaning.Meant.TheVariants as M
-use Rattle.phrases.specs.Meanings.{word, meant_at, meant_by}
+use Rattle.phrases.specs.Meanings.{Meant, word, meant_at, meant_by}
 use Rattle.phrases.specs.Phrases.{is_silent, unsilenced, body_of}
 use Rattle.phrases.proofs.FirstWordLaws.{named_first, same_equal, silent_first}
 use Rattle.phrases.proofs.NoCommandLaws.{meant_none}
@@ -76,11 +75,10 @@ placed_none l k e h =
 -- ---- words that mean a command
 
 abbrev is_command : Meant → Bool
-is_command M.Nothing = false
-is_command (M.Command c) = true
-is_command (M.Refused n) = false
+is_command (Err n) = false
+is_command (Ok c) = true
 
-module _ (l : List ℕ) (c : Command) (e : meant_by (body_of l) ≡ M.Command c) where
+module _ (l : List ℕ) (c : Command) (e : meant_by (body_of l) ≡ Ok c) where
   -- `silent` has six letters; else the first word is that of the form.
   by_silent : (t : Bool) → is_silent l ≡ t → is_station l ≡ true → ⊥
   unfolding is_station meant_by

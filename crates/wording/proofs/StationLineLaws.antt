@@ -1,5 +1,6 @@
 -- The lines of command values, a line feed between two of them: one value more, as the bench program takes them, how
 -- many they are, and how long. Assumes nothing.
+use Rattle.std.proofs.lemmas.List.{take_all}
 use Prim.Native.Nat.{ℕ, ◌+◌, ◌*◌, ◌≤◌, ◌<◌}
 use native.Mathlib.Numerals.{add-one}
 use native.Mathlib.Omega.{arith}
@@ -7,7 +8,7 @@ use mathlib.Core.Bool.{Bool, true, false, cond, false≢true}
 use mathlib.Core.List.{List, [], ◌∷◌, ◌++◌, append-nil, append_assoc}
 use mathlib.Core.Path.{◌≡◌, refl, sym, ap, ◌∙◌}
 use lib.Dec.{eqb}
-use lib.ListN.{length, get_or, take, length-append, length-take}
+use lib.ListN.{length, get_or, take, length-append}
 use lib.Seq.{take-suc, append_snoc}
 use Rattle.laws.proofs.Tests.{both}
 use Rattle.digits.specs.Digits.{end_byte}
@@ -19,7 +20,7 @@ use Rattle.text.specs.Parts.{marks, parts}
 use Rattle.text.specs.Text.{push_of, writes}
 use Rattle.text.specs.declared.Text.{Text}
 use Rattle.text.proofs.LengthLaws.{first_short}
-use Rattle.text.proofs.TextLaws.{joined, writes_last}
+use Rattle.text.proofs.TextLaws.{joined, writes_last, writes_none}
 use Rattle.phrases.specs.Phrases.{line_text}
 use Rattle.phrases.proofs.PhraseLaws.{line_most}
 use Rattle.phrases.proofs.SameLineLaws.{same_line}
@@ -38,36 +39,34 @@ more_last (q ∷ rs) r =
     (ap (λ (x : List ℕ). line_text q ++ x) (more_last rs r)
     ∙ sym (append_assoc (line_text q) (more_text rs) (10 ∷ line_text r)))
 
-pub lines_last : (rs : List Request) (r : Request) → 1 ≤ length rs
-    → lines_text (rs ++ (r ∷ [])) ≡ lines_text rs ++ (10 ∷ line_text r)
-unfolding lines_text
-lines_last [] r h = absurd (omega arith)
-lines_last (q ∷ rs) r h =
-    ap (λ (x : List ℕ). line_text q ++ x) (more_last rs r)
-    ∙ sym (append_assoc (line_text q) (more_text rs) (10 ∷ line_text r))
-
-pub lines_one : (r : Request) → lines_text (r ∷ []) ≡ line_text r
-unfolding lines_text more_text
-lines_one r = append-nil (line_text r)
-
 -- ---- written one by one
 
-module _ {t : Text} (s : Text) (rs : List Request) (d : Request) where
-  pub first_written : 1 ≤ length rs → t ≡ writes s (line_text (get_or rs 0 d)) → t ≡ writes s (lines_text (take 1 rs))
-  first_written h e =
-      e ∙ ap (writes s) (sym (ap lines_text (take-suc rs 0 d h) ∙ lines_one (get_or rs 0 d)))
-
+module _ {t : Text} (s : Text) where
   -- A line feed, and the line of the next.
-  pub next_written : {u v : Text} (k : ℕ) → 1 ≤ k → k < length rs → t ≡ writes s (lines_text (take k rs))
-      → u ≡ push_of t 10 → v ≡ writes u (line_text (get_or rs k d)) → v ≡ writes s (lines_text (take (k + 1) rs))
-  next_written k a b e p q =
+  pub next_written : {u v : Text} (rs : List Request) (d : Request) (k : ℕ) → k < length rs
+      → t ≡ writes s (more_text (take k rs)) → u ≡ push_of t 10 → v ≡ writes u (line_text (get_or rs k d))
+      → v ≡ writes s (more_text (take (k + 1) rs))
+  next_written rs d k b e p q =
       let r = get_or rs k d in
-      let l = lines_text (take k rs) in
-      let n : 1 ≤ length (take k rs) = omega (arith, length-take k rs) in
+      let l = more_text (take k rs) in
       joined s (l ++ (10 ∷ [])) (line_text r) (writes_last s l 10 e p) q
       ∙ ap (writes s)
       (append_snoc l 10 (line_text r)
-      ∙ sym (ap lines_text (ap (λ (m : ℕ). take m rs) (add-one k) ∙ take-suc rs k d b) ∙ lines_last (take k rs) r n))
+      ∙ sym (ap more_text (ap (λ (m : ℕ). take m rs) (add-one k) ∙ take-suc rs k d b) ∙ more_last (take k rs) r))
+
+-- None, and all of them.
+pub none_written : (t : Text) (rs : List Request) → length rs ≡ 0 → t ≡ writes t (lines_text rs)
+unfolding lines_text
+none_written t [] h = writes_none t
+none_written t (r ∷ rs) h = absurd (omega (arith, h))
+
+pub all_written : {t u : Text} (s : Text) (r : Request) (rs vs : List Request) (k : ℕ) → vs ≡ r ∷ rs → length rs ≤ k
+    → t ≡ writes s (line_text r) → u ≡ writes t (more_text (take k rs)) → u ≡ writes s (lines_text vs)
+unfolding lines_text
+all_written s r rs vs k e h p q =
+    joined s (line_text r) (more_text (take k rs)) p q
+    ∙ ap (writes s)
+    (ap (λ (x : List Request). line_text r ++ more_text x) (take_all k rs h) ∙ sym (ap lines_text e))
 
 -- ---- as the bench program takes them
 

@@ -1,4 +1,5 @@
 -- No answer to words has a line feed within it. Assumes nothing.
+use Rattle.std.proofs.Common.{Option, Some, None, Ok, Err}
 use Prim.Native.Nat.{ℕ}
 use mathlib.Core.Bool.{Bool, cond}
 use mathlib.Core.List.{List, ◌++◌}
@@ -6,7 +7,6 @@ use mathlib.Core.Path.{refl}
 use lib.Dec.{ltb, eqb}
 use Rattle.laws.proofs.Pick.{by_bool}
 use Rattle.digits.specs.Digits.{end_byte, six_of}
-use Rattle.digits.specs.declared.Ident.{Ident}
 use Rattle.block.specs.Block.{front_of}
 use Rattle.line.specs.Ranges.{is_within}
 use Rattle.host.specs.Master.{master_of}
@@ -17,8 +17,6 @@ use Rattle.machine.specs.Calls.{chars}
 use Rattle.text.specs.Decimal.{decimal_of}
 use Rattle.text.specs.Parts.{part}
 use Rattle.numerals.specs.Numerals.{spelled_of}
-use Rattle.numerals.specs.declared.Spelled.{Spelled}
-use Rattle.numerals.specs.declared.Spelled.TheVariants as S
 use Rattle.sentences.specs.Places as K
 use Rattle.sentences.specs.Sentences.{
   sentences,
@@ -30,9 +28,8 @@ use Rattle.sentences.specs.Sentences.{
   turned_text,
   question_text,
 }
-use Rattle.phrases.specs.declared.meaning.Meant.{Meant}
-use Rattle.phrases.specs.declared.meaning.Meant.TheVariants as M
-use Rattle.phrases.specs.Meanings.{word, words, meant_by}
+use Rattle.phrases.specs.declared.meaning.NoCommand.TheVariants as N
+use Rattle.phrases.specs.Meanings.{Meant, word, words, meant_by}
 use Rattle.phrases.specs.Phrases.{
   is_silent,
   unsilenced,
@@ -75,10 +72,10 @@ line r =
     by_bool Clean (has_line r) (part end_byte 0 (line_of r)) (turned_text 19)
     (λ h. first_part end_byte (line_of r) (line_clean r h)) (λ _. turned 19)
 
-request : (silent : Bool) (ident : Ident) (l : List ℕ) (m : Meant) → Clean (request_text silent ident l m)
-request silent ident l M.Nothing = question (word 0 (body_of l))
-request silent ident l (M.Command c) = line (record { silent = silent; command = c; ident = ident })
-request silent ident l (M.Refused n) = turned n
+request : (silent : Bool) (ident : Option ℕ) (l : List ℕ) (m : Meant) → Clean (request_text silent ident l m)
+request silent ident l (Err N.Misspelled) = question (word 0 (body_of l))
+request silent ident l (Ok c) = line (record { silent = silent; command = c; ident = ident })
+request silent ident l (Err N.NotExact) = turned 21
 
 command : (l : List ℕ) → Clean (command_text l)
 unfolding command_text
@@ -102,16 +99,16 @@ tick n w =
     either (ltb 16777215 w) (turned_text 3) (chars "T " ++ (decimal_of n ++ (chars " " ++ six_of w))) (turned 3)
     (join (decimal_of n) (chars " " ++ six_of w) (decimal n) (six w))
 
-tick_line : (l : List ℕ) (n : ℕ) (s : Spelled) → Clean (tick_line_text l n s)
-tick_line l n S.Not = question (word 0 (body_of l))
-tick_line l n (S.Number w) =
+tick_line : (l : List ℕ) (n : ℕ) (s : Option ℕ) → Clean (tick_line_text l n s)
+tick_line l n None = question (word 0 (body_of l))
+tick_line l n (Some w) =
     either (is_within n 1 1000000) (tick_text n w) (nearest_text l) (tick n w) (question (word 0 (body_of l)))
 
 ticks : (l : List ℕ) → Clean (ticks_text l)
 ticks l =
-    let a = tick_line_text l (number_at l 1) (S.Number 0) in
+    let a = tick_line_text l (number_at l 1) (Some 0) in
     let b = tick_line_text l (number_at l 1) (spelled_of 16 (word 2 l)) in
-    either (eqb (words l) 2) a (cond (eqb (words l) 3) b (nearest_text l)) (tick_line l (number_at l 1) (S.Number 0))
+    either (eqb (words l) 2) a (cond (eqb (words l) 3) b (nearest_text l)) (tick_line l (number_at l 1) (Some 0))
     (either (eqb (words l) 3) b (nearest_text l) (tick_line l (number_at l 1) (spelled_of 16 (word 2 l)))
     (question (word 0 (body_of l))))
 
@@ -127,11 +124,11 @@ trial_line k n w =
     (join (decimal_of k) (chars " " ++ r) (decimal k)
     (join (decimal_of n) (chars " " ++ six_of w) (decimal n) (six w)))))
 
-tried : (l : List ℕ) (k n w : Spelled) → Clean (tried_text l k n w)
-tried l S.Not n w = question (word 0 (body_of l))
-tried l (S.Number k) S.Not w = question (word 0 (body_of l))
-tried l (S.Number k) (S.Number n) S.Not = question (word 0 (body_of l))
-tried l (S.Number k) (S.Number n) (S.Number w) = trial_line k n w
+tried : (l : List ℕ) (k n w : Option ℕ) → Clean (tried_text l k n w)
+tried l None n w = question (word 0 (body_of l))
+tried l (Some k) None w = question (word 0 (body_of l))
+tried l (Some k) (Some n) None = question (word 0 (body_of l))
+tried l (Some k) (Some n) (Some w) = trial_line k n w
 
 trial : (l : List ℕ) → Clean (trial_text l)
 trial l =
@@ -140,10 +137,10 @@ trial l =
     let w = spelled_of 16 (word 3 l) in
     let d = tried_text l k n w in
     let e = cond (eqb (words l) 4) d (nearest_text l) in
-    let b = tried_text l k n (S.Number 0) in
-    either (eqb (words l) 2) (tried_text l k (S.Number 1000000) (S.Number 0)) (cond (eqb (words l) 3) b e)
-    (tried l k (S.Number 1000000) (S.Number 0))
-    (either (eqb (words l) 3) b e (tried l k n (S.Number 0))
+    let b = tried_text l k n (Some 0) in
+    either (eqb (words l) 2) (tried_text l k (Some 1000000) (Some 0)) (cond (eqb (words l) 3) b e)
+    (tried l k (Some 1000000) (Some 0))
+    (either (eqb (words l) 3) b e (tried l k n (Some 0))
     (either (eqb (words l) 4) d (nearest_text l) (tried l k n w) (question (word 0 (body_of l)))))
 
 pub said : (l : List ℕ) → Clean (words_text l)

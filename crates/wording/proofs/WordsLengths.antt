@@ -1,19 +1,19 @@
 -- No answer to a line of words is long: by what is printed for what the words mean. Assumes nothing.
+use Rattle.std.proofs.Common.{Option, Some, None, Ok, Err}
 use Prim.Native.Nat.{ℕ, ◌≤◌, ◌<◌}
 use native.Mathlib.Omega.{arith}
 use mathlib.Core.Bool.{Bool, true, false, cond, ◌&&◌, false≢true}
 use mathlib.Core.List.{List, ◌++◌}
-use mathlib.Core.Path.{◌≡◌, refl}
+use mathlib.Core.Path.{◌≡◌}
 use borrow.Author.Tests.{leb-true}
 use lib.Dec.{ltb, leb, eqb}
 use lib.ListN.{length, length-append}
 use Rattle.laws.proofs.Pick.{by_bool, by_lt}
 use Rattle.digits.specs.Digits.{end_byte, six_of}
-use Rattle.digits.specs.declared.Ident.{Ident}
 use Rattle.line.specs.Ranges.{is_within}
 use Rattle.block.specs.Block.{front_of}
 use Rattle.host.specs.Master.{master_of}
-use Rattle.host.proofs.MasterLaws as masters
+use Rattle.host.proofs.MasterLaws.{master_longest}
 use Rattle.host.specs.Watch.{watch_off}
 use Rattle.host.specs.Writer.{has_line, line_of}
 use Rattle.host.specs.declared.Request.{Request}
@@ -23,13 +23,10 @@ use Rattle.text.specs.Parts.{part}
 use Rattle.text.proofs.DecimalLaws.{decimal_ten}
 use Rattle.text.proofs.LengthLaws.{first_short}
 use Rattle.numerals.specs.Numerals.{spelled_of}
-use Rattle.numerals.specs.declared.Spelled.{Spelled}
-use Rattle.numerals.specs.declared.Spelled.TheVariants as S
 use Rattle.sentences.specs.Sentences.{turned_text}
 use Rattle.sentences.proofs.Lengths.{turned_length, question_length}
-use Rattle.phrases.specs.declared.meaning.Meant.{Meant}
-use Rattle.phrases.specs.declared.meaning.Meant.TheVariants as M
-use Rattle.phrases.specs.Meanings.{word, words, meant_by}
+use Rattle.phrases.specs.declared.meaning.NoCommand.TheVariants as N
+use Rattle.phrases.specs.Meanings.{Meant, word, words, meant_by}
 use Rattle.phrases.specs.Phrases.{
   is_silent,
   unsilenced,
@@ -54,7 +51,6 @@ use Rattle.phrases.specs.Phrases.{
   overlong_text,
 }
 use Rattle.phrases.proofs.PhraseLaws.{line_most}
-use Rattle.wording.proofs.MeantLengths.{Small, small_meant}
 
 -- ---- texts of at most 200 bytes
 
@@ -86,17 +82,15 @@ line_short r =
     (short (part end_byte 0 (line_of r)) (omega (arith, first_short end_byte (line_of r), line_most r)))
     (turned_most 19 (omega arith))
 
-request_most : (silent : Bool) (ident : Ident) (l : List ℕ) (m : Meant) → Small m
-    → Short (request_text silent ident l m)
-unfolding Small
-request_most silent ident l M.Nothing h = nearest_most l
-request_most silent ident l (M.Command c) h = line_short (record { silent = silent; command = c; ident = ident })
-request_most silent ident l (M.Refused n) h = turned_most n (omega (arith, h))
+request_most : (silent : Bool) (ident : Option ℕ) (l : List ℕ) (m : Meant) → Short (request_text silent ident l m)
+request_most silent ident l (Err N.Misspelled) = nearest_most l
+request_most silent ident l (Ok c) = line_short (record { silent = silent; command = c; ident = ident })
+request_most silent ident l (Err N.NotExact) = turned_most 21 (omega arith)
 
 command_most : (l : List ℕ) → Short (command_text l)
 unfolding command_text
 command_most l =
-    request_most (is_silent l) (named_of (unsilenced l)).ident l (meant_by (body_of l)) (small_meant (body_of l))
+    request_most (is_silent l) (named_of (unsilenced l)).ident l (meant_by (body_of l))
 
 opening_most : (l : List ℕ) → Short (opening_text l)
 opening_most l =
@@ -104,7 +98,7 @@ opening_most l =
     (short (part end_byte 0 watch_off) (omega (arith, first_short end_byte watch_off))) (nearest_most l)
 
 axis_most : (l : List ℕ) → master_of l < 4294967296
-axis_most l = let a : master_of l < 5 = (masters.picked l {k = master_of l} refl).1.axis in omega (arith, a)
+axis_most l = let a : master_of l < 5 = (master_longest l).axis in omega (arith, a)
 
 master_most : (l : List ℕ) → Short (master_text l)
 master_most l =
@@ -123,9 +117,9 @@ tick_most n w h =
     either_short (ltb 16777215 w) (turned_text 3) (chars "T " ++ (d ++ r)) (turned_most 3 (omega arith))
     (short (chars "T " ++ (d ++ r)) (omega (arith, length-append d r)))
 
-ticks_by_most : (l : List ℕ) (n : ℕ) (s : Spelled) → Short (tick_line_text l n s)
-ticks_by_most l n S.Not = nearest_most l
-ticks_by_most l n (S.Number w) =
+ticks_by_most : (l : List ℕ) (n : ℕ) (s : Option ℕ) → Short (tick_line_text l n s)
+ticks_by_most l n None = nearest_most l
+ticks_by_most l n (Some w) =
     by_bool Short (is_within n 1 1000000) (tick_text n w) (nearest_text l)
     (λ e. tick_most n w (at_most e)) (λ e. nearest_most l)
   where
@@ -140,7 +134,7 @@ ticks_most : (l : List ℕ) → Short (ticks_text l)
 ticks_most l =
     search (
       either_short,
-      ticks_by_most l (number_at l 1) (S.Number 0),
+      ticks_by_most l (number_at l 1) (Some 0),
       ticks_by_most l (number_at l 1) (spelled_of 16 (word 2 l)),
       nearest_most l,
     )
@@ -160,11 +154,11 @@ trial_line_most k n w =
     let y : length d ≤ 10 = decimal_ten n (omega arith) in
     short a (omega (arith, length-append m (chars " " ++ (d ++ r)), length-append d r)))))
 
-tried_most : (l : List ℕ) (k n w : Spelled) → Short (tried_text l k n w)
-tried_most l S.Not n w = nearest_most l
-tried_most l (S.Number k) S.Not w = nearest_most l
-tried_most l (S.Number k) (S.Number n) S.Not = nearest_most l
-tried_most l (S.Number k) (S.Number n) (S.Number w) = trial_line_most k n w
+tried_most : (l : List ℕ) (k n w : Option ℕ) → Short (tried_text l k n w)
+tried_most l None n w = nearest_most l
+tried_most l (Some k) None w = nearest_most l
+tried_most l (Some k) (Some n) None = nearest_most l
+tried_most l (Some k) (Some n) (Some w) = trial_line_most k n w
 
 trial_most : (l : List ℕ) → Short (trial_text l)
 trial_most l = search (either_short, tried_most, nearest_most l)

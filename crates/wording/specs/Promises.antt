@@ -1,7 +1,6 @@
 -- What the desk promises of every line and of every input.
-use Rattle.std.specs.Prelude.{ℕ, ◌≤◌, ◌<◌, Bool, true, false, cond, ◌&&◌, List, [], ◌∷◌, ◌++◌, ◌≡◌, ltb, eqb, length}
-use Rattle.digits.specs.Digits.{end_byte}
-use Rattle.digits.specs.declared.Number.TheVariants.{Value}
+use Rattle.std.specs.Prelude.{ℕ, ◌≤◌, ◌<◌, Bool, true, false, cond, ◌&&◌, List, [], ◌∷◌, ◌++◌, ◌≡◌, ltb, eqb, length, Some, Ok}
+use Rattle.digits.specs.Digits.{end_byte, numbered}
 use Rattle.block.specs.Block.{front_of}
 use Rattle.line.specs.declared.command.Command.{Command}
 use Rattle.receiver.specs.Receiver.{before_end}
@@ -10,12 +9,9 @@ use Rattle.reader.specs.Reader.{Figures}
 use Rattle.reader.specs.Blocks.{Says}
 use Rattle.session.specs.Asked.{ticks_by, asked_of}
 use Rattle.screen.specs.Asked as screen
-use Rattle.screen.specs.declared.asked.Asked.TheVariants.{Trial}
 use Rattle.numerals.specs.Numerals.{spelled_of}
-use Rattle.numerals.specs.declared.Spelled.TheVariants.{Number}
 use Rattle.sentences.specs.Places as K
 use Rattle.sentences.specs.Sentences.{place_of, turned_text}
-use Rattle.phrases.specs.declared.meaning.Meant.TheVariants as M
 use Rattle.phrases.specs.Meanings.{word, words, meant_by}
 use Rattle.phrases.specs.Phrases.{body_of, number_at}
 use Rattle.phrases.specs.Promises.{request_in}
@@ -56,33 +52,33 @@ entered [] = []
 entered (c ∷ cs) = cond (eqb c 10) end_byte c ∷ entered cs
 
 -- Blocks by their figures, words by the line that they ask for. `request_in`, what the bench reads as ticks (session's
--- `ticks_by n (Value w false)`, which is `Ticks n w`) and what the preview reads as a trial (`asked_of` of screen) are
+-- `ticks_by n (numbered w false)`: n ticks with w) and what the preview reads as a trial (`asked_of` of screen) are
 -- those of `SameLine`, `TickLine` and `TrialLine` of phrases.
 pub record Told : Type 0 where
   -- a reply block s that says f, its line feed in the place of 0D, is told by f
   pub reply : (s : List ℕ) (f : Figures) → Says s f → answer_text (before_end s) ≡ figure_text f
   -- words that mean a command are answered with the command's very line
-  pub command : (l : List ℕ) (c : Command) → Wordy l → meant_by (body_of l) ≡ M.Command c
+  pub command : (l : List ℕ) (c : Command) → Wordy l → meant_by (body_of l) ≡ Ok c
       → has_line (request_in l c) ≡ true → answer_text l ++ (end_byte ∷ []) ≡ line_of (request_in l c)
   -- words that ask for ticks are answered with what the bench program reads as these
   pub ticks : (l : List ℕ) (w : ℕ) → Wordy l → place_of (word 0 l) ≡ K.ticks → words l ≡ 3
-      → 1 ≤ number_at l 1 → number_at l 1 ≤ 1000000 → spelled_of 16 (word 2 l) ≡ Number w → w < 16777216
-      → asked_of (answer_text l) ≡ ticks_by (number_at l 1) (Value w false)
+      → 1 ≤ number_at l 1 → number_at l 1 ≤ 1000000 → spelled_of 16 (word 2 l) ≡ Some w → w < 16777216
+      → asked_of (answer_text l) ≡ ticks_by (number_at l 1) (numbered w false)
   -- and without an input word, by 0
   pub ticks_alone : (l : List ℕ) → Wordy l → place_of (word 0 l) ≡ K.ticks → words l ≡ 2
       → 1 ≤ number_at l 1 → number_at l 1 ≤ 1000000
-      → asked_of (answer_text l) ≡ ticks_by (number_at l 1) (Value 0 false)
+      → asked_of (answer_text l) ≡ ticks_by (number_at l 1) (numbered 0 false)
   -- words that ask for a trial are answered with what the program preview reads as it
   pub trial : (l : List ℕ) (k n w : ℕ) → Wordy l → place_of (word 0 l) ≡ K.trial → words l ≡ 4
-      → spelled_of 10 (word 1 l) ≡ Number k → spelled_of 10 (word 2 l) ≡ Number n → spelled_of 16 (word 3 l) ≡ Number w
-      → k ≤ 4 → n ≤ 1000000 → w < 16777216 → screen.asked_of (answer_text l) ≡ Trial k n w
+      → spelled_of 10 (word 1 l) ≡ Some k → spelled_of 10 (word 2 l) ≡ Some n → spelled_of 16 (word 3 l) ≡ Some w
+      → k ≤ 4 → n ≤ 1000000 → w < 16777216 → screen.asked_of (answer_text l) ≡ screen.asking k n w
   -- without an input word, by 0
   pub trial_wordless : (l : List ℕ) (k n : ℕ) → Wordy l → place_of (word 0 l) ≡ K.trial → words l ≡ 3
-      → spelled_of 10 (word 1 l) ≡ Number k → spelled_of 10 (word 2 l) ≡ Number n
-      → k ≤ 4 → n ≤ 1000000 → screen.asked_of (answer_text l) ≡ Trial k n 0
+      → spelled_of 10 (word 1 l) ≡ Some k → spelled_of 10 (word 2 l) ≡ Some n
+      → k ≤ 4 → n ≤ 1000000 → screen.asked_of (answer_text l) ≡ screen.asking k n 0
   -- and with a master alone, by 1,000,000 ticks
   pub trial_alone : (l : List ℕ) (k : ℕ) → Wordy l → place_of (word 0 l) ≡ K.trial → words l ≡ 2
-      → spelled_of 10 (word 1 l) ≡ Number k → k ≤ 4 → screen.asked_of (answer_text l) ≡ Trial k 1000000 0
+      → spelled_of 10 (word 1 l) ≡ Some k → k ≤ 4 → screen.asked_of (answer_text l) ≡ screen.asking k 1000000 0
   -- a station's command that is converted is answered with the very lines of its command values, in order
   pub station : (l : List ℕ) → is_converted l ≡ true → entered (answer_of l) ≡ written (values_in (command_in l))
   -- and any other with the number that turns it away

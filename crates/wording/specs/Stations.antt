@@ -3,8 +3,7 @@
 use Rattle.std.specs.Prelude.{ℕ, Bool, false, cond, List, [], ◌∷◌, ◌++◌, eqb, length, get_or, take}
 use Rattle.line.specs.Ranges.{is_within}
 use Rattle.host.specs.declared.Request.{Request}
-use Rattle.station.specs.Station.{number_of, values_in}
-use Rattle.station.specs.declared.Converted.{Converted}
+use Rattle.station.specs.Station.{Converted, number_of, values_in}
 use Rattle.sentences.specs.Sentences.{turned_text}
 use Rattle.phrases.specs.Meanings.{word}
 use Rattle.phrases.specs.Phrases.{line_text}
@@ -50,6 +49,10 @@ used_in c = take c.count c.requests
 -- The number with its sentence, or the lines where it is 0.
 abbrev pub converted_text : ℕ → List Request → List ℕ
 converted_text n rs = cond (eqb n 0) (lines_text rs) (turned_text n)
+
+-- What is told of what comes of a command.
+abbrev pub told_of : Converted → List ℕ
+told_of c = converted_text c.number (used_in c)
 
 unfoldable pub station_text : List ℕ → List ℕ
 station_text l = converted_text (number_of (command_in l)) (values_in (command_in l))

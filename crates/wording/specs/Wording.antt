@@ -1,13 +1,11 @@
 -- What the desk answers to each line of its input (docs/PROTOCOL.md, "From words"), and how a line under way is held.
-use Rattle.std.specs.Prelude.{ℕ, zero, suc, Bool, true, false, cond, List, [], ◌∷◌, ◌++◌, ◌≡◌, leb, eqb, length}
+use Rattle.std.specs.Prelude.{ℕ, zero, suc, Bool, true, false, cond, List, [], ◌∷◌, ◌++◌, ◌≡◌, leb, eqb, length, is_some}
 use Rattle.block.specs.Block.{front_of}
 use Rattle.machine.specs.Calls.{chars}
 use Rattle.text.specs.Parts.{part, parts}
 use Rattle.text.specs.Text.{holding, push_of}
 use Rattle.text.specs.declared.Text.{Text}
 use Rattle.numerals.specs.Numerals.{signed_of}
-use Rattle.numerals.specs.declared.Signed.{Signed}
-use Rattle.numerals.specs.declared.Signed.TheVariants as Z
 use Rattle.phrases.specs.Phrases.{words_text, overlong_text}
 use Rattle.readout.specs.Readout.{is_block, block_text}
 use Rattle.wording.specs.declared.Desk.{Desk}
@@ -16,12 +14,8 @@ use Rattle.wording.specs.Stations.{is_station, station_text}
 
 -- ---- Five sums, with one space (32) between two of them
 
-abbrev pub is_signed : Signed → Bool
-is_signed Z.Not = false
-is_signed (Z.Number minus size) = true
-
 abbrev pub is_sum_at : List ℕ → ℕ → Bool
-is_sum_at l k = is_signed (signed_of (part 32 k l))
+is_sum_at l k = is_some (signed_of (part 32 k l))
 
 -- Those so far are, and the next is.
 abbrev pub and_sum : Bool → List ℕ → ℕ → Bool

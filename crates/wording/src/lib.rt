@@ -8,10 +8,7 @@ ghost use Rattle.text.specs.Text.{holding, writes};
 ghost use Rattle.wording.specs.Page.{Page};
 ghost use Rattle.wording.specs.Promises.{Whole, AnswerLines, Told, AnswersInOrder};
 ghost use Rattle.wording.specs.Wording.{
-  is_signed,
   is_sum_at,
-  and_sum,
-  sums_in,
   are_sums,
   answer_text,
   answer_of,
@@ -24,7 +21,6 @@ ghost use Rattle.wording.specs.Wording.{
   finished_of,
 };
 
-use numerals::Signed;
 use phrases::OVERLONG;
 use text::{FEED, SPACE, Text, parts};
 
@@ -43,59 +39,22 @@ pub struct Taken {
     pub text: Text,
 }
 
-// Whether a number was read.
-fn is_signed(s: Signed) -> bool
-    ensures { result ≡ is_signed s }
-{
-    match s {
-        Signed::Not => false,
-        Signed::Number { minus: _, size: _ } => true,
-    }
-}
-
 // Whether a sum stands at place k.
 fn is_sum_at(line: &[u8], k: usize) -> bool
     ensures { result ≡ is_sum_at line.now k }
 {
-    let signed = numerals::read_signed(parts::part(line, SPACE, k));
-    is_signed(signed)
-}
-
-// Whether those so far are sums, and the next is.
-fn and_sum(good: bool, line: &[u8], k: usize) -> bool
-    ensures { result ≡ and_sum good line.now k }
-{
-    if good {
-        return is_sum_at(line, k);
-    }
-    false
-}
-
-// Whether the first five parts are sums.
-fn five_sums(line: &[u8]) -> bool
-    ensures { result ≡ sums_in 5 line.now }
-{
-    let mut good = true;
-    let mut k = 0;
-    while k < 5 {
-        good = and_sum(good, line, k);
-        k += 1;
-    }
-    good
+    numerals::read_signed(parts::part(line, SPACE, k)).is_some()
 }
 
 // Whether a line is five sums.
 fn are_sums(line: &[u8]) -> bool
     ensures { result ≡ are_sums line.now }
 {
-    let n = parts::parts(line, SPACE);
-    if n == 5 {
-        return five_sums(line);
-    }
-    false
+    parts::parts(line, SPACE) == 5 && (0..5).all(|k| is_sum_at(line, k))
 }
 
 // What a line is, and what is printed to it.
+// The first that holds, in the order of the page.
 fn answer_text(text: Text, line: &[u8]) -> Text
     ensures { result ≡ writes text (answer_text line.now) }
 {
@@ -109,8 +68,7 @@ fn answer_text(text: Text, line: &[u8]) -> Text
         return readout::block(text, line);
     }
     if are_sums(line) {
-        let word = text.characters(b"pulses ");
-        return word.characters(line);
+        return text.characters(b"pulses ").characters(line);
     }
     phrases::words(text, line)
 }
@@ -124,8 +82,7 @@ pub fn answer(line: &[u8]) -> Text
     ensures told { Told }
     ensures page { Page }
 {
-    let text = answer_text(Text::new(), line);
-    text.with(FEED)
+    answer_text(Text::new(), line).with(FEED)
 }
 
 impl Desk {
@@ -134,18 +91,14 @@ impl Desk {
         ensures value { result ≡ desk_of [] }
         ensures answers_in_order { AnswersInOrder }
     {
-        let line = Text::new();
-        Desk { line }
+        Desk { line: Text::new() }
     }
 
     // The answer to the line that is held.
     fn answered(self) -> Text
         ensures { result ≡ holding (answer_of (held_line self)) }
     {
-        let line = self.line;
-        let chars = line.chars;
-        let n = line.count as usize;
-        answer(block::front(&chars, n))
+        answer(self.line.bytes())
     }
 
     // One byte of the input.
@@ -154,15 +107,17 @@ impl Desk {
         ensures desks { Desks self (λ l. result ≡ taken_by l b) }
     {
         if b == FEED {
-            let text = self.answered();
-            let desk = Desk::new();
-            return Taken { desk, text };
+            return Taken {
+                desk: Desk::new(),
+                text: self.answered(),
+            };
         }
-        let before = self.line;
-        let line = before.with(b);
-        let desk = Desk { line };
-        let text = Text::new();
-        Taken { desk, text }
+        Taken {
+            desk: Desk {
+                line: self.line.with(b),
+            },
+            text: Text::new(),
+        }
     }
 
     // The end of the input.
@@ -170,8 +125,7 @@ impl Desk {
         ensures value { result ≡ finished_of self }
         ensures desks { Desks self (λ l. result ≡ finished_by l) }
     {
-        let line = self.line;
-        if line.count == 0 {
+        if self.line.count == 0 {
             return Text::new();
         }
         self.answered()

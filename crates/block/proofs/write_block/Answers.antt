@@ -10,11 +10,6 @@ returns-then-buf-need c =
     let k = no_room c.args.at (block_of c.args.block) c.args.buf.now (omega (arith, length_block c.args.block)) in
     record { value = k.0; buf_after = k.1 }
 
-pub returns-then-buf-need-2 : goal.returns-then-buf-need-2
-returns-then-buf-need-2 c =
-    let k = no_room c.args.at (block_of c.args.block) c.args.buf.now (omega (arith, length_block c.args.block)) in
-    record { value = k.0; buf_after = k.1 }
-
 pub write_at-requires : goal.write_at-requires
 write_at-requires c =
     omega (arith, length_block c.args.block)

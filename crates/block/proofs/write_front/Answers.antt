@@ -1,8 +1,8 @@
 -- A block over the front: nine stores, ten with an identification, all of them in range. Assumes nothing.
+use Rattle.std.proofs.Common.{None, Some}
 use mathlib.Core.Path.{sym}
 use native.Mathlib.Omega.{arith}
 use lib.ListN.{length-set}
-use Rattle.digits.specs.declared.Ident.TheVariants.{Absent, Given}
 use Rattle.block.proofs.Blocks.{block_least, block_absent, block_given, stored_over}
 use Rattle.block.proofs.write_front.Goals as goal
 
@@ -33,26 +33,26 @@ bounds-buf-7 c = simp length-set (omega (arith, block_least c.args.block))
 pub bounds-buf-8 : goal.bounds-buf-8
 bounds-buf-8 c = simp length-set (omega (arith, block_least c.args.block))
 
-pub bounds-buf-8-in-Given : goal.bounds-buf-8-in-Given
-bounds-buf-8-in-Given c = simp length-set (omega (arith, block_given c.args.block _ c.in-Given.is))
+pub bounds-buf-8-in-Some : goal.bounds-buf-8-in-Some
+bounds-buf-8-in-Some c = simp length-set (omega (arith, block_given c.args.block _ c.in-Some.is))
 
 pub bounds-buf-9 : goal.bounds-buf-9
-bounds-buf-9 c = simp length-set (omega (arith, block_given c.args.block _ c.in-Given.is))
+bounds-buf-9 c = simp length-set (omega (arith, block_given c.args.block _ c.in-Some.is))
 
-pub shape_of-buf-in-Absent : goal.shape_of-buf-in-Absent
-shape_of-buf-in-Absent c = simp length-set
+pub shape_of-buf-in-None : goal.shape_of-buf-in-None
+shape_of-buf-in-None c = simp length-set
 
-pub returns-in-Absent : goal.returns-in-Absent
-returns-in-Absent c = (
-  sym (block_absent c.args.block c.in-Absent.is),
-  stored_over c.args.block _ _ c.capital.ensures c.six_capitals-d.ensures Absent _ c.in-Absent.is c.requires,
+pub returns-in-None : goal.returns-in-None
+returns-in-None c = (
+  sym (block_absent c.args.block c.in-None.is),
+  stored_over c.args.block _ _ c.capital.ensures c.six_capitals-d.ensures None _ c.in-None.is c.requires,
 )
 
-pub shape_of-buf-in-Given : goal.shape_of-buf-in-Given
-shape_of-buf-in-Given c = simp length-set
+pub shape_of-buf-in-Some : goal.shape_of-buf-in-Some
+shape_of-buf-in-Some c = simp length-set
 
-pub returns-in-Given : goal.returns-in-Given
-returns-in-Given c = (
-  sym (block_given c.args.block _ c.in-Given.is),
-  stored_over c.args.block _ _ c.capital.ensures c.six_capitals-d.ensures (Given _) _ c.in-Given.is c.requires,
+pub returns-in-Some : goal.returns-in-Some
+returns-in-Some c = (
+  sym (block_given c.args.block _ c.in-Some.is),
+  stored_over c.args.block _ _ c.capital.ensures c.six_capitals-d.ensures (Some _) _ c.in-Some.is c.requires,
 )

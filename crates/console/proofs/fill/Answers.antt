@@ -15,7 +15,7 @@ pub pass_line-passed-requires : goal.pass_line-passed-requires
 pass_line-passed-requires c =
     record {
       running = c.loop-i.invariant.3;
-      at_in_bounds = omega (arith, c.loop-i.invariant.1, c.if-out-at-lt-REPLY_ROOM.false);
+      at_in_bounds = omega (arith, c.loop-i.invariant.1, c.if-out-at-ge-REPLY_ROOM.true);
     }
 
 pub overflow_add-i : goal.overflow_add-i
@@ -51,7 +51,7 @@ loop-i-preserved c =
       p.auto.out ∙ v.2,
       p.ensures.running_2,
       filling_more entry bs l.session l.at l.i l.out c.args.s p.result p.new.out
-          (omega (arith, v.2, c.if-out-at-lt-REPLY_ROOM.false)) v.4
+          (omega (arith, v.2, c.if-out-at-ge-REPLY_ROOM.true)) v.4
           (subst (Lined l.session l.at l.out p.new.out p.result) (part_rest bs l.i)
           (p.ensures.runs, (p.ensures.runs_2, p.ensures.count_value))),
     )
@@ -65,11 +65,11 @@ returns-after-loop-i c =
           (inl c.loop-i-test.false);
     }
 
-pub returns-then-out-at-lt-REPLY_ROOM : goal.returns-then-out-at-lt-REPLY_ROOM
-returns-then-out-at-lt-REPLY_ROOM c =
+pub returns-else-out-at-ge-REPLY_ROOM : goal.returns-else-out-at-ge-REPLY_ROOM
+returns-else-out-at-ge-REPLY_ROOM c =
     let l = c.loop-i in
     record {
       running = l.invariant.3;
       runs = filling_done c.args.out.now c.args.bytes.now l.session l.at l.i l.out c.args.s l.invariant.4
-          (inr (omega (arith, l.invariant.2, c.if-out-at-lt-REPLY_ROOM.true)));
+          (inr (omega (arith, l.invariant.2, c.if-out-at-ge-REPLY_ROOM.false)));
     }

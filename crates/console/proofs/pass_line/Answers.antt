@@ -9,8 +9,8 @@ use Rattle.console.proofs.pass_line.Goals as goal
 pub gather-gathered-requires : goal.gather-gathered-requires
 gather-gathered-requires c = c.requires.running
 
-pub overflow_add-count : goal.overflow_add-count
-overflow_add-count c = omega arith
+pub overflow_add-result : goal.overflow_add-result
+overflow_add-result c = omega arith
 
 pub bounds-bytes-n : goal.bounds-bytes-n
 bounds-bytes-n c = omega arith

@@ -1,9 +1,9 @@
 -- The end of a line and its reply: src/line_end.rt on held values.
-use Rattle.std.specs.Prelude.{ℕ, Bool, cond, List, [], eqb, length}
-use Rattle.digits.specs.declared.Ident.{Ident}
+use Rattle.line.specs.declared.Accepted.{Accepted}
+use Rattle.line.specs.declared.Refusal.{Refusal}
+use Rattle.line.specs.Line.{refusal_number}
+use Rattle.std.specs.Prelude.{ℕ, Bool, cond, List, [], eqb, length, Option, Result, Ok, Err}
 use Rattle.line.specs.declared.command.Command.{Command}
-use Rattle.line.specs.declared.Judged.{Judged}
-use Rattle.line.specs.declared.Judged.TheVariants.{Accepted, Refused}
 use Rattle.reply.specs.Reply.{told_by, reply_of, refusal_of}
 use Rattle.controller.specs.declared.state.Controller.{Controller}
 use Rattle.controller.specs.declared.state.ByteAnswer.{ByteAnswer}
@@ -13,20 +13,20 @@ use Rattle.controller.specs.Inner.Numbers.{number_of, turned_of}
 use Rattle.controller.specs.Inner.Status.{readings_of}
 
 -- The reply to a line turned away.
-abbrev pub refuse_reply : Controller → Bool → Ident → ℕ → List ℕ
+abbrev pub refuse_reply : Controller → Bool → Option ℕ → ℕ → List ℕ
 refuse_reply c silent ident n = cond silent [] (refusal_of c.cold.switch n ident)
 
 -- A line turned away.
-abbrev pub refuse_of : Controller → Bool → Ident → ℕ → ByteAnswer
+abbrev pub refuse_of : Controller → Bool → Option ℕ → ℕ → ByteAnswer
 refuse_of c silent ident n =
     record { controller = turned_of c n; length = length (refuse_reply c silent ident n); number = n }
 
 -- The reply to a line accepted, made from the readings before it.
-abbrev pub tell_reply : Controller → Bool → Ident → Command → ℕ → List ℕ
+abbrev pub tell_reply : Controller → Bool → Option ℕ → Command → ℕ → List ℕ
 tell_reply c silent ident command digits = cond silent [] (reply_of (told_by (readings_of c)) command digits ident)
 
 -- A line accepted.
-abbrev pub obey_of : Controller → Bool → Ident → Command → ℕ → ByteAnswer
+abbrev pub obey_of : Controller → Bool → Option ℕ → Command → ℕ → ByteAnswer
 obey_of c silent ident command digits = record {
   controller = awaits_of (zero_watch_of (does_of c command)) command silent ident;
   length = length (tell_reply c silent ident command digits);
@@ -34,15 +34,15 @@ obey_of c silent ident command digits = record {
 }
 
 -- A line that has ended.
-abbrev pub lined_of : Controller → Bool → Ident → Judged → ByteAnswer
-lined_of c silent ident (Refused n) = refuse_of c silent ident n
-lined_of c silent ident (Accepted command digits) =
-    cond (eqb (number_of c command) 0) (obey_of c silent ident command digits)
-    (refuse_of c silent ident (number_of c command))
+abbrev pub lined_of : Controller → Bool → Option ℕ → Result Accepted Refusal → ByteAnswer
+lined_of c silent ident (Err r) = refuse_of c silent ident (refusal_number r)
+lined_of c silent ident (Ok a) =
+    cond (eqb (number_of c a.command) 0) (obey_of c silent ident a.command a.digits)
+    (refuse_of c silent ident (number_of c a.command))
 
 -- Its reply.
-abbrev pub lined_reply : Controller → Bool → Ident → Judged → List ℕ
-lined_reply c silent ident (Refused n) = refuse_reply c silent ident n
-lined_reply c silent ident (Accepted command digits) =
-    cond (eqb (number_of c command) 0) (tell_reply c silent ident command digits)
-    (refuse_reply c silent ident (number_of c command))
+abbrev pub lined_reply : Controller → Bool → Option ℕ → Result Accepted Refusal → List ℕ
+lined_reply c silent ident (Err r) = refuse_reply c silent ident (refusal_number r)
+lined_reply c silent ident (Ok a) =
+    cond (eqb (number_of c a.command) 0) (tell_reply c silent ident a.command a.digits)
+    (refuse_reply c silent ident (number_of c a.command))

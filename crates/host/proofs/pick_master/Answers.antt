@@ -1,30 +1,21 @@
--- The axes in their order, each by what was answered of it. Assumes nothing.
-use Rattle.laws.proofs.Pick.{picks, tolds}
-use Rattle.host.specs.Master.{master_of}
-use Rattle.host.proofs.MasterLaws.{picked}
+-- The first axis that is the longest, or the last one where none before it is. Assumes nothing.
+use native.Mathlib.Omega.{arith}
+use mathlib.Core.Bool.{not}
+use mathlib.Core.Path.{sym, ap, ◌∙◌}
+use Rattle.host.proofs.MasterLaws.{Passed, first_longest, first_master, last_is}
 use Rattle.host.proofs.pick_master.Goals as goal
 
-pub returns-then-none_longer : goal.returns-then-none_longer
-unfolding master_of
-returns-then-none_longer c =
-    let k = picked _ (search (picks, tolds) depth 11) in record { value = k.0; longest = k.1 }
-
-pub returns-then-none_longer-2 : goal.returns-then-none_longer-2
-unfolding master_of
-returns-then-none_longer-2 c =
-    let k = picked _ (search (picks, tolds) depth 11) in record { value = k.0; longest = k.1 }
-
-pub returns-then-none_longer-3 : goal.returns-then-none_longer-3
-unfolding master_of
-returns-then-none_longer-3 c =
-    let k = picked _ (search (picks, tolds) depth 11) in record { value = k.0; longest = k.1 }
-
-pub returns-then-none_longer-4 : goal.returns-then-none_longer-4
-unfolding master_of
-returns-then-none_longer-4 c =
-    let k = picked _ (search (picks, tolds) depth 11) in record { value = k.0; longest = k.1 }
+pub returns-then-not-some_longer : goal.returns-then-not-some_longer
+returns-then-not-some_longer c =
+    let d = c.args.distances in
+    let k = c.loop-k.k in
+    let e = ap not (sym c.some_longer.ensures ∙ c.if-not-some_longer.true) in
+    let p = c.loop-k.invariant in
+    record { value = first_master d k (omega arith) e p; longest = first_longest d k (omega arith) e p }
 
 pub returns : goal.returns
-unfolding master_of
 returns c =
-    let k = picked _ (search (picks, tolds) depth 11) in record { value = k.0; longest = k.1 }
+    let d = c.args.distances in
+    let p : Passed d 4 = λ j h. c.loop-k.invariant j (omega arith) in
+    let e = last_is d p in
+    record { value = first_master d 4 (omega arith) e p; longest = first_longest d 4 (omega arith) e p }

@@ -1,10 +1,6 @@
--- The five bytes, and what they are to a machine. Assumes nothing.
-use mathlib.Core.Path.{refl}
+-- What the five bytes are to a machine. Assumes nothing.
 use Rattle.host.proofs.WatchLaws.{watch_off_lem}
 use Rattle.host.proofs.watch_off.Goals as goal
 
-pub returns : goal.returns
-returns c = record {
-  value = refl;
-  watch_off = watch_off_lem;
-}
+pub returns-clause-watch_off : goal.returns-clause-watch_off
+returns-clause-watch_off c = watch_off_lem

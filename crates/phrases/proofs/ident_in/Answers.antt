@@ -5,7 +5,7 @@ use mathlib.Core.Bool.{Bool, false}
 use mathlib.Core.Path.{◌≡◌, refl, sym, ap, ◌∙◌}
 use mathlib.Core.List.{List}
 use lib.ListN.{length, take, drop}
-use Rattle.laws.proofs.Pick.{on_lt, on_ge, on_true, on_false}
+use Rattle.laws.proofs.Pick.{on_ge, on_true}
 use Rattle.text.specs.Parts.{same}
 use Rattle.machine.specs.Calls.{chars}
 use Rattle.phrases.specs.Phrases.{has_ident}
@@ -18,17 +18,7 @@ tested l r h p =
     let e : length l - 1 - (length l - 5) ≡ 4 = omega (arith, h) in
     on_ge (length l) 5 r false _ h (p ∙ ap (λ (n : ℕ). same (take n (drop (length l - 5) l)) (chars " as ")) e)
 
-pub returns-then-n-lt5 : goal.returns-then-n-lt5
-returns-then-n-lt5 c =
-    let l = c.args.line.now in
-    on_false (has_ident l) _ _ _ (sym (on_lt (length l) 5 false false _ c.if-n-lt5.true refl)) refl
-
 pub returns-then-same : goal.returns-then-same
 returns-then-same c =
     let l = c.args.line.now in
-    on_true (has_ident l) _ _ _ (sym (tested l _ c.if-n-lt5.false c.same.ensures) ∙ c.if-same.true) refl
-
-pub returns : goal.returns
-returns c =
-    let l = c.args.line.now in
-    on_false (has_ident l) _ _ _ (sym (tested l _ c.if-n-lt5.false c.same.ensures) ∙ c.if-same.false) refl
+    on_true (has_ident l) _ _ _ (sym (tested l _ c.if-n-ge5.true c.same.ensures) ∙ c.if-same.true) refl

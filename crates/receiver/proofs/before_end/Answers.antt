@@ -1,36 +1,17 @@
--- How many bytes stand before the first 0D. The invariant: those so far and those of the rest make up the whole. The
--- measure is the bytes left. Assumes nothing.
-use native.Mathlib.Omega.{arith}
-use borrow.Author.Tests.{eq-eqb, ne_eqb}
+-- As many as the library counts. Assumes nothing.
+use Rattle.std.proofs.Common.{◌∙◌, rules, tests, not}
+use Rattle.std.proofs.lemmas.Iterator.{YieldsList-from_slice}
+use Rattle.std.proofs.lemmas.Iterator.Consumers.{YieldsList-at, count_from_yields_List}
+use Rattle.std.proofs.lemmas.Iterator.Search.{YieldsList-from_take_while}
+use Rattle.std.proofs.lemmas.List.Folds.{length-prefix_len}
 use lib.Dec.{eqb}
-use Rattle.receiver.proofs.Laws.{before_none, before_mark_lem, before_next}
+use Rattle.receiver.proofs.Laws.{length_before_end}
 use Rattle.receiver.proofs.before_end.Goals as goal
-
-pub loop-i-init : goal.loop-i-init
-loop-i-init c = (omega arith, omega arith)
-
-pub bounds-bytes-i : goal.bounds-bytes-i
-bounds-bytes-i c = omega arith
-
-pub returns-then-bytes-i-eq-END : goal.returns-then-bytes-i-eq-END
-returns-then-bytes-i-eq-END c =
-    let k = before_mark_lem (λ b. eqb b 13) c.args.bytes.now c.loop-i.i (omega arith)
-    (eq-eqb _ 13 c.if-bytes-i-eq-END.true) in
-    omega (arith, k, c.loop-i.invariant.1)
-
-pub overflow_add-i : goal.overflow_add-i
-overflow_add-i c = omega arith
-
-pub loop-i-smaller : goal.loop-i-smaller
-loop-i-smaller c = omega arith
-
-pub loop-i-preserved : goal.loop-i-preserved
-loop-i-preserved c =
-    let k = before_next (λ b. eqb b 13) c.args.bytes.now c.loop-i.i (omega arith)
-    (ne_eqb _ 13 c.if-bytes-i-eq-END.false) in
-    (omega arith, omega (arith, k, c.loop-i.invariant.1))
 
 pub returns : goal.returns
 returns c =
-    let k = before_none (λ b. eqb b 13) c.args.bytes.now c.loop-i.i (omega arith) in
-    omega (arith, k, c.loop-i.invariant.1)
+    count_from_yields_List c.take_while.result _ c.count.ensures.ran
+    (YieldsList-from_take_while _ (λ b. not (eqb b 13))
+    (YieldsList-at c.take_while.ensures.source (YieldsList-from_slice c.args.bytes.now cc))
+    c.take_while.ensures.closure c.take_while.ensures.done (λ x b q k. search (rules, tests)))
+    ∙ (length-prefix_len _ c.args.bytes.now ∙ length_before_end c.args.bytes.now)

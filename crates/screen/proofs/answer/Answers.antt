@@ -1,21 +1,29 @@
--- What is printed to a line that begins with D, by what it asks. Assumes nothing.
-use Prim.Native.Nat.{◌≤◌}
-use mathlib.Core.Path.{ap, subst, ◌∙◌}
-use lib.ListN.{length}
+-- What is printed to a line that begins with D, by what it asks: the question, or the trial on screen. Assumes nothing.
+use mathlib.Core.Path.{sym, ◌∙◌}
 use Rattle.machine.specs.Calls.{state}
-use Rattle.text.specs.Text.{holding}
-use Rattle.screen.specs.declared.asked.Asked.{Asked}
-use Rattle.screen.specs.Answer.{shown_for}
+use Rattle.screen.proofs.AnswerLaws.{trial_shown, trial_whole}
 use Rattle.screen.proofs.PageLaws.{forms, screens}
 use Rattle.screen.proofs.ShareLaws.{shares, times}
 use Rattle.screen.proofs.answer.Goals as goal
 
+pub returns-in_default-clause-shares : goal.returns-in_default-clause-shares
+returns-in_default-clause-shares c = shares
+
+pub returns-in_default-clause-times : goal.returns-in_default-clause-times
+returns-in_default-clause-times c = times
+
+pub returns-in_default-clause-forms : goal.returns-in_default-clause-forms
+returns-in_default-clause-forms c = forms
+
+pub returns-in_default-clause-screens : goal.returns-in_default-clause-screens
+returns-in_default-clause-screens c = screens
+
 pub returns : goal.returns
 returns c =
-    let e = c.parse_trial-asked.ensures in
-    let s = c.shown_for.ensures in record {
-      made = λ w h q. s.made w h q ∙ ap (λ (a : Asked). holding (shown_for (state w h) a)) e;
-      made_2 = λ w h q. subst (λ (a : Asked). length (shown_for (state w h) a) ≤ 250) e (s.made_2 w h q);
+    let e = sym c.parse_trial.ensures ∙ c.in-Some.is in
+    let t = c.temixohuel_trial-trial.ensures.made in record {
+      made = λ w h q. trial_shown (state w h) e (t w h q) c.screen.ensures.value;
+      made_2 = λ w h q. trial_whole (state w h) e (t w h q) c.screen.ensures.whole;
       shares = shares;
       times = times;
       forms = forms;

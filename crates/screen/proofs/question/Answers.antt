@@ -10,4 +10,4 @@ use Rattle.screen.proofs.question.Goals as goal
 pub returns : goal.returns
 returns c =
     c.characters.ensures
-    ∙ ap (λ (t : Text). writes t question_text) c.new-text.ensures ∙ writes_holding [] question_text
+    ∙ ap (λ (t : Text). writes t question_text) c.new.ensures ∙ writes_holding [] question_text

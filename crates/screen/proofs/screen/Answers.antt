@@ -12,8 +12,8 @@ use Rattle.screen.proofs.WholeLaws.{six_whole, turned_whole}
 use borrow.Author.Rules.{rules}
 use Rattle.screen.proofs.screen.Goals as goal
 
-pub returns-then-number-eq0 : goal.returns-then-number-eq0
-returns-then-number-eq0 c =
+pub returns-then-trial-eq0 : goal.returns-then-trial-eq0
+returns-then-trial-eq0 c =
     let l = six_lines c.args.trial c.args.master c.args.ticks in
     let e : c.args.trial.number ≡ 0 = omega arith in record {
       value = c.six_lines.ensures.value
@@ -28,7 +28,7 @@ returns c =
     let l = turned_text c.args.trial.number in
     let q : c.args.trial.number ≡ 0 → ⊥ = omega arith in record {
       value = writes_last (holding []) l 10
-          (c.turned_away-told.ensures ∙ ap (λ (t : Text). writes t l) c.new-text.ensures)
+          (c.turned_away.ensures ∙ ap (λ (t : Text). writes t l) c.new-text.ensures)
           c.with.ensures
           ∙ writes_holding [] (l ++ (10 ∷ []))
           ∙ ap holding (on_ne c.args.trial.number 0 _ _ _ q refl);

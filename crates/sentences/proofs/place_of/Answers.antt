@@ -1,38 +1,23 @@
--- The place of a word, looked for one after another. The invariant: that among those before k. Assumes nothing.
+-- The place of a word: the one place whose word it is, or that of no word. Assumes nothing.
+use Rattle.std.proofs.Common.{Option, None, Some, ◌≡◌, refl, ap, ◌∙◌, rules, tests}
+use Rattle.std.specs.Option.{option_map, unwrap_or}
+use Rattle.std.proofs.lemmas.Iterator.{YieldsList-from_range}
+use Rattle.std.proofs.lemmas.Iterator.Search.{find_from_yields_List}
 use Prim.Native.Nat.{ℕ}
-use mathlib.Core.Path.{◌≡◌, refl, sym, ap, ◌∙◌}
-use native.Mathlib.Omega.{arith}
-use native.Mathlib.Numerals.{add-one}
-use Rattle.sentences.specs.Sentences.{place_in, or_else}
-use Rattle.sentences.proofs.PlaceLaws.{places}
+use Rattle.sentences.specs.Sentences.{is_word}
+use Rattle.sentences.proofs.PlaceLaws.{places, first_is}
 use Rattle.sentences.proofs.place_of.Goals as goal
 
-pub loop-k-init : goal.loop-k-init
-unfolding place_in
-loop-k-init c = (omega arith, refl)
+as_found : (r : Option ℕ) → unwrap_or r 23 ≡ unwrap_or (option_map (λ x. x) r) 23
+as_found None = refl
+as_found (Some x) = refl
 
-pub or_else-found-requires : goal.or_else-found-requires
-or_else-found-requires c = tt
+pub returns-clause-value : goal.returns-clause-value
+returns-clause-value c =
+    let w = c.args.w.now in
+    let e = find_from_yields_List (λ k. is_word k w) _ _ c.find.result c.find.ensures.ran
+    (YieldsList-from_range 0 23 23 (cc) (cc)) (λ x b q k. search (rules, tests)) in
+    c.unwrap_or.ensures ∙ (as_found c.find.result ∙ (ap (λ o. unwrap_or o 23) e ∙ first_is w))
 
-pub overflow_add-k : goal.overflow_add-k
-overflow_add-k c = record { fits = omega (arith, c.loop-k-test.true) }
-
-pub loop-k-smaller : goal.loop-k-smaller
-loop-k-smaller c = omega (arith, c.loop-k-test.true)
-
-pub loop-k-preserved : goal.loop-k-preserved
-unfolding place_in
-loop-k-preserved c = (
-  omega (arith, c.loop-k-test.true),
-  c.or_else-found.ensures
-      ∙ (ap (λ (n : ℕ). or_else c.args.w.now n c.loop-k.k) c.loop-k.invariant.1
-      ∙ ap (λ (n : ℕ). place_in n c.args.w.now) (sym (add-one c.loop-k.k))),
-)
-
-pub returns : goal.returns
-returns c =
-    let e : c.loop-k.k ≡ 23 = omega (arith, c.loop-k.invariant.0, c.loop-k-test.false) in
-    record {
-      value = c.loop-k.invariant.1 ∙ ap (λ (n : ℕ). place_in n c.args.w.now) e;
-      places = places;
-    }
+pub returns-clause-places : goal.returns-clause-places
+returns-clause-places c = places

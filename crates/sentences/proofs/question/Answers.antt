@@ -14,10 +14,8 @@ pub returns : goal.returns
 unfolding forms
 returns c =
     record {
-      value = joined c.args.text (chars "? ") _ c.characters-mark.ensures
-          (c.row.ensures
-          ∙ ap (λ (k : ℕ). writes c.characters-mark.result (part 10 k forms))
-          c.closest-k.ensures);
+      value = joined c.args.text (chars "? ") _ c.characters.ensures
+          (c.row.ensures ∙ ap (λ (k : ℕ). writes c.characters.result (part 10 k forms)) c.closest.ensures);
       nearest = nearest c.args.w.now;
       tables = tables;
     }

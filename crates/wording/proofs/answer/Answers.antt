@@ -15,7 +15,7 @@ pub returns : goal.returns
 returns c =
     record {
       value = writes_last (holding []) (answer_text c.args.line.now) 10
-          (c.answer_text-text.ensures
+          (c.answer_text.ensures
           ∙ ap (λ (t : Text). writes t (answer_text c.args.line.now)) c.new.ensures) c.with.ensures
           ∙ writes_holding [] (answer_of c.args.line.now);
       whole = whole;

@@ -40,7 +40,7 @@ returns-then-are_sums c =
     let l = c.args.line.now in
     let short : length l < 100 = omega (arith, c.if-line-ge-OVERLONG.false) in
     let none : is_station l ≡ false = sym c.is_station.ensures ∙ c.if-is_station.false in
-    joined c.args.text (chars "pulses ") l c.characters-word.ensures c.characters.ensures
+    joined c.args.text (chars "pulses ") l c.characters.ensures c.characters-then-are_sums.ensures
     ∙ ap (λ (x : List ℕ). writes c.args.text x)
     (sym (sums_are l short none
     (sym c.is_block.ensures ∙ c.if-is_block.false)

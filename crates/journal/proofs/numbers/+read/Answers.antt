@@ -1,82 +1,75 @@
 -- A number, group by group. Assumes nothing.
-use Prim.Native.Nat.{◌<◌}
+use Rattle.std.proofs.Common.{rules, Ok, Err}
+use Prim.Native.Nat.{suc, ◌+◌, ◌*◌}
+use mathlib.Core.Path.{◌≡◌, ◌∙◌}
 use native.Mathlib.Omega.{arith}
-use lib.ListN.{get_or}
+use Rattle.journal.specs.declared.Refusal.TheVariants.{CutShort, Wrong}
 use Rattle.journal.proofs.GroupLaws.{capacity_least, capacity_most}
-use Rattle.journal.proofs.ReadLaws.{
-  ended,
-  last_group,
-  seventh,
-  next_refused,
-  next_zero,
-  next_joined,
-  larger,
-  value_fits,
-}
+use Rattle.journal.proofs.ReadLaws.{ended, last_group, seventh, next_refused, next_zero, next_joined, value_fits}
 use Rattle.journal.proofs.numbers.+read.Goals as goal
 
 -- ---- with no further group
 
-pub returns-then-bytes-at : goal.returns-then-bytes-at
-returns-then-bytes-at t c =
-    record {
-      value = ended c.args.bytes.now c.args.at c.args.more c.if-bytes-at.true;
-      value_bound = omega (arith, capacity_least c.args.more);
-    }
+pub returns-in_err-b-clause-value : goal.returns-in_err-b-clause-value
+returns-in_err-b-clause-value t c =
+    let e : c.from_residual.result ≡ Err CutShort = search rules in
+    e ∙ ended c.args.bytes.now c.args.at c.args.more (search rules)
 
-pub returns-then-b-lt-TOP : goal.returns-then-b-lt-TOP
-returns-then-b-lt-TOP t c =
-    record {
-      value = last_group c.args.bytes.now c.args.at c.args.more c.if-bytes-at.false c.if-b-lt-TOP.true;
-      value_bound = omega (arith, c.if-b-lt-TOP.true, capacity_least c.args.more);
-    }
+pub returns-then-b-lt-TOP-clause-value : goal.returns-then-b-lt-TOP-clause-value
+returns-then-b-lt-TOP-clause-value t c =
+    (λ i. Ok (record { value = c.from.ensures i; next = c.args.at + 1 }))
+    ∙ last_group c.args.bytes.now c.args.at c.args.more c.in_ok-b.b (search rules) (search rules) c.if-b-lt-TOP.true
 
-pub returns-then-more-eq0 : goal.returns-then-more-eq0
-returns-then-more-eq0 t c =
-    record {
-      value =
-          seventh c.args.bytes.now c.args.at c.args.more c.if-bytes-at.false c.if-b-lt-TOP.false c.if-more-eq0.true;
-      value_bound = omega (arith, capacity_least c.args.more);
-    }
+pub returns-then-b-lt-TOP-clause-value_bound : goal.returns-then-b-lt-TOP-clause-value_bound
+returns-then-b-lt-TOP-clause-value_bound t c = omega (arith, capacity_least c.args.more, c.from.ensures)
+
+pub returns-in_err-more-clause-value : goal.returns-in_err-more-clause-value
+returns-in_err-more-clause-value t c =
+    let e : c.from_residual-in_err-more.result ≡ Err Wrong = search rules in
+    e
+    ∙ seventh c.args.bytes.now c.args.at c.args.more c.in_ok-b.b (search rules) (search rules) c.if-b-lt-TOP.false
+    (search rules)
 
 -- ---- before one more
 
-pub returns-then-rest-ne0 : goal.returns-then-rest-ne0
-returns-then-rest-ne0 t c =
-    record {
-      value =
-          next_refused c.args.bytes.now c.args.at c.args.more c.if-bytes-at.false c.if-b-lt-TOP.false
-          c.if-more-eq0.false c.read-rest.result c.read-rest.ensures.value c.if-rest-ne0.true;
-      value_bound = omega (arith, c.read-rest.ensures.value_bound, larger c.args.more c.if-more-eq0.false);
-    }
+pub returns-in_err-rest-clause-value : goal.returns-in_err-rest-clause-value
+returns-in_err-rest-clause-value t c =
+    let e : c.from_residual-in_err-rest.result ≡ Err c.in_err-rest.field-0.0 = search rules in
+    e
+    ∙ next_refused c.args.bytes.now c.args.at c.args.more c.in_ok-b.b (search rules) (search rules) c.if-b-lt-TOP.false
+    c.in_ok-more.more (search rules) c.in_err-rest.field-0.0 c.in_err-rest.ensures.value
+
+pub returns-then-rest-eq0-clause-value : goal.returns-then-rest-eq0-clause-value
+returns-then-rest-eq0-clause-value t c =
+    next_zero c.args.bytes.now c.args.at c.args.more c.in_ok-b.b (search rules) (search rules) c.if-b-lt-TOP.false
+    c.in_ok-more.more (search rules) c.in_ok-rest.rest c.in_ok-rest.ensures.value c.if-rest-eq0.true
 
 pub overflow_mul-result : goal.overflow_mul-result
 overflow_mul-result t c =
-    let most = capacity_most c.args.more c.requires in
-    record { fits = omega (arith, c.read-rest.ensures.value_bound, larger c.args.more c.if-more-eq0.false, most) }
-
-pub overflow_add-result-then-rest-ne0-2 : goal.overflow_add-result-then-rest-ne0-2
-overflow_add-result-then-rest-ne0-2 t c =
-    let b : get_or c.args.bytes.now c.args.at 0 < 256 = omega (arith, c.type_inv.bytes c.args.at) in
-    let v = value_fits c.args.more _ c.read-rest.result.value c.if-more-eq0.false b c.read-rest.ensures.value_bound in
+    let some : c.args.more ≡ suc c.in_ok-more.more = search rules in
+    let v = value_fits c.args.more c.in_ok-more.more 0 c.in_ok-rest.rest.value some (omega arith)
+    c.in_ok-rest.ensures.value_bound in
     record { fits = omega (arith, v, capacity_most c.args.more c.requires) }
 
-pub returns-then-rest-ne0-2 : goal.returns-then-rest-ne0-2
-returns-then-rest-ne0-2 t c =
-    let b : get_or c.args.bytes.now c.args.at 0 < 256 = omega (arith, c.type_inv.bytes c.args.at) in
-    record {
-      value =
-          next_joined c.args.bytes.now c.args.at c.args.more c.if-bytes-at.false c.if-b-lt-TOP.false
-          c.if-more-eq0.false c.read-rest.result c.read-rest.ensures.value c.if-rest-ne0.false c.if-rest-ne0-2.true;
-      value_bound =
-          value_fits c.args.more _ c.read-rest.result.value c.if-more-eq0.false b c.read-rest.ensures.value_bound;
-    }
+pub overflow_add-result-2 : goal.overflow_add-result-2
+overflow_add-result-2 t c =
+    let some : c.args.more ≡ suc c.in_ok-more.more = search rules in
+    let v = value_fits c.args.more c.in_ok-more.more c.in_ok-b.b c.in_ok-rest.rest.value some (search rules)
+    c.in_ok-rest.ensures.value_bound in
+    record { fits = omega (arith, v, c.from-2.ensures, capacity_most c.args.more c.requires) }
 
-pub returns : goal.returns
-returns t c =
-    record {
-      value =
-          next_zero c.args.bytes.now c.args.at c.args.more c.if-bytes-at.false c.if-b-lt-TOP.false
-          c.if-more-eq0.false c.read-rest.result c.read-rest.ensures.value c.if-rest-ne0.false c.if-rest-ne0-2.false;
-      value_bound = omega (arith, capacity_least c.args.more);
-    }
+pub returns-clause-value : goal.returns-clause-value
+returns-clause-value t c =
+    (λ i. Ok (record {
+      value = c.from-2.ensures i + 128 * c.in_ok-rest.rest.value;
+      next = c.in_ok-rest.rest.next;
+    }))
+    ∙ next_joined c.args.bytes.now c.args.at c.args.more c.in_ok-b.b (search rules) (search rules) c.if-b-lt-TOP.false
+    c.in_ok-more.more (search rules) c.in_ok-rest.rest c.in_ok-rest.ensures.value c.if-rest-eq0.false
+
+pub returns-clause-value_bound : goal.returns-clause-value_bound
+returns-clause-value_bound t c =
+    let some : c.args.more ≡ suc c.in_ok-more.more = search rules in
+    let v = value_fits c.args.more c.in_ok-more.more c.in_ok-b.b c.in_ok-rest.rest.value some (search rules)
+    c.in_ok-rest.ensures.value_bound in
+    omega (arith, v, c.from-2.ensures)

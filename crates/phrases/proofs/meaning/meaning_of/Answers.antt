@@ -9,4 +9,4 @@ pub returns : goal.returns
 unfolding meant_by
 returns c =
     c.meant_at.ensures ∙ ap (λ (k : ℕ). meant_at k c.args.body.now)
-    (c.place_of-k.ensures.value ∙ ap place_of c.part.ensures)
+    (c.place_of.ensures.value ∙ ap place_of c.part.ensures)

@@ -1,19 +1,14 @@
--- The switch digit in brackets, or nothing for 0. Assumes nothing.
-use mathlib.Core.Path.{ap, ◌∙◌}
-use Rattle.laws.proofs.Pick.{picks}
-use Rattle.digits.specs.Digits.{capital_of}
-use Rattle.text.proofs.TextLaws.{writes_none}
+-- The switch digit in brackets. Assumes nothing.
+use mathlib.Core.List.{[], ◌∷◌}
+use mathlib.Core.Path.{◌∙◌}
+use borrow.Author.Tests.{ne_eqb}
+use Rattle.text.proofs.TextLaws.{joined, writes_one}
 use Rattle.machine.specs.Calls.{chars}
-use Rattle.text.specs.Text.{writes}
-use Rattle.readout.proofs.ReadoutLaws.{in_brackets}
 use Rattle.readout.proofs.told.switch.Goals as goal
 
-pub returns-then-s-eq0 : goal.returns-then-s-eq0
-returns-then-s-eq0 c =
-    writes_none c.args.text ∙ ap (writes c.args.text) (search picks)
-
-pub returns : goal.returns
-returns c =
-    in_brackets c.args.text (chars " (switch ") (capital_of c.args.s) c.characters-word.ensures
-    c.capital.ensures c.with-digit.ensures c.with.ensures
-    ∙ ap (writes c.args.text) (search picks)
+pub returns-else-s-eq0 : goal.returns-else-s-eq0
+returns-else-s-eq0 c =
+    rw (ne_eqb _ _ c.if-s-eq0.false, ← c.capital.ensures)
+    (joined c.args.text (chars " (switch ") _ c.characters.ensures
+    (joined _ (c.capital.result ∷ []) (chars ")") (c.with.ensures ∙ writes_one _ _)
+    (c.with-else-s-eq0.ensures ∙ writes_one _ _)))

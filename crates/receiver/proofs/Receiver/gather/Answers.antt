@@ -18,7 +18,7 @@ returns c =
     let a = c.args in
     let taken =
     ap (λ (k : ℕ). take k a.bytes.now) c.before_end-count.ensures ∙ before_take (λ b. eqb b 13) a.bytes.now in
-    let next = c.push_all-next.ensures ∙ ap (push_all a.self) taken in
+    let next = c.push_all.ensures ∙ ap (push_all a.self) taken in
     let told =
     gathered_told a.self a.bytes.now (λ i. record { next = next i; count = c.before_end-count.ensures i }) in
     record { value = told.0; holding = told.1 }

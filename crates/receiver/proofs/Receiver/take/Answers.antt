@@ -1,6 +1,6 @@
 -- The step on what is held, and so on every list of characters so held. Assumes nothing.
+use Rattle.std.proofs.Common.{None}
 use Rattle.laws.proofs.Pick.{on_eq, on_ne}
-use Rattle.receiver.specs.declared.Heard.TheVariants.{Character}
 use Rattle.receiver.proofs.Laws.{both_told}
 use Rattle.receiver.proofs.Receiver.take.Goals as goal
 
@@ -16,5 +16,5 @@ pub returns : goal.returns
 returns c =
     let told =
     both_told c.args.self c.args.b
-    (on_ne c.args.b 13 _ _ _ c.if-b-eq-END.false (λ i. record { next = c.push-next.ensures i; heard = Character })) in
+    (on_ne c.args.b 13 _ _ _ c.if-b-eq-END.false (λ i. record { next = c.push-next.ensures i; heard = None })) in
     record { value = told.0; holding = told.1 }

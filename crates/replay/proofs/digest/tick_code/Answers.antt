@@ -18,9 +18,9 @@ returns c =
     let f3 : SFits w8 (get_or c.args.pulses 3 (pos 0)) = search (rules, pulse_sfits) in
     let f4 : SFits w8 (get_or c.args.pulses 4 (pos 0)) = search (rules, pulse_sfits) in
     λ i.
-    code_passed _ _ f0 c.code.ensures.0 i
-    + code_passed _ _ f1 c.code-2.ensures.0 i * 3
-    + code_passed _ _ f2 c.code-3.ensures.0 i * 9
-    + code_passed _ _ f3 c.code-4.ensures.0 i * 27
-    + code_passed _ _ f4 c.code-5.ensures.0 i * 81
+    code_passed _ _ f0 c.code.ensures.value i
+    + code_passed _ _ f1 c.code-2.ensures.value i * 3
+    + code_passed _ _ f2 c.code-3.ensures.value i * 9
+    + code_passed _ _ f3 c.code-4.ensures.value i * 27
+    + code_passed _ _ f4 c.code-5.ensures.value i * 81
     + c.args.number * 256

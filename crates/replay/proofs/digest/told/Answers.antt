@@ -17,6 +17,6 @@ returns c =
     let f3 : SFits w32 (get_or c.args.entry.travels 3 (pos 0)) = search rules in
     let f4 : SFits w32 (get_or c.args.entry.travels 4 (pos 0)) = search rules in
     told_is _ c.args.entry _ _ _ _ _ _ _ _ c.mix-counted.ensures c.mix-moved.ensures c.mix.ensures
-    (answered raised w32 _ _ f0 c.raise-a.ensures) (answered raised w32 _ _ f1 c.raise-b.ensures)
-    (answered raised w32 _ _ f2 c.raise-c.ensures) (answered raised w32 _ _ f3 c.raise-d.ensures)
-    (answered raised w32 _ _ f4 c.raise-e.ensures)
+    (answered raised w32 _ _ f0 c.raise.ensures) (answered raised w32 _ _ f1 c.raise-2.ensures)
+    (answered raised w32 _ _ f2 c.raise-3.ensures) (answered raised w32 _ _ f3 c.raise-4.ensures)
+    (answered raised w32 _ _ f4 c.raise-5.ensures)

@@ -7,8 +7,8 @@ use Rattle.machine.specs.Calls.{state}
 use Rattle.replay.proofs.AnswerLaws.{answer_room, byte_part}
 use Rattle.replay.proofs.play.lend.Goals as goal
 
-pub overflow_cast-length : goal.overflow_cast-length
-overflow_cast-length c =
+pub overflow_cast-a : goal.overflow_cast-a
+overflow_cast-a c =
     let n : c.byte-a.result.length ≤ length c.args.buf.now =
     answer_room (state c.requires.reachable.switch c.requires.reachable.history) c.args.b c.args.buf.now c.byte-a.result
     (c.byte-a.ensures.0 c.requires.reachable.switch c.requires.reachable.history c.requires.reachable.made) in
@@ -18,4 +18,4 @@ pub returns : goal.returns
 returns c =
     λ s h e. byte_part s h c.args.b c.args.buf.now c.args.was.digest c.byte-a.result c.byte-a.new.buf _ _
     (c.byte-a.ensures.0 s h e) (c.byte-a.ensures.1.0 s h e) c.mix-answered.ensures c.args.whole _
-    c.part-counted.ensures c.bytes-digest.ensures
+    c.part-counted.ensures c.bytes.ensures

@@ -7,6 +7,6 @@ returns c =
     record {
       plays = λ s h e. tick_is s h c.args.word c.args.was.digest c.args.buf.now c.tick-a.new.buf c.tick-a.result _ _ _ _
           (c.tick-a.ensures.0 s h e) (c.tick-a.ensures.1.0 s h e) c.with_block-shown.ensures c.entered-entered.ensures
-          c.tick_code-code.ensures c.mix-digest.ensures;
+          c.tick_code-code.ensures c.mix.ensures;
       lends = λ s h e. c.tick-a.ensures.1.0 s h e;
     }

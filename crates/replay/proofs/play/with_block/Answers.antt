@@ -10,4 +10,4 @@ returns-then-n-eq0 c =
 
 pub returns : goal.returns
 returns c =
-    c.bytes.ensures ∙ ap (mixed_bytes c.args.h) c.front-block.ensures.result_value
+    c.bytes.ensures ∙ ap (mixed_bytes c.args.h) c.front.ensures.result_value

@@ -8,4 +8,4 @@ use Rattle.screen.proofs.decimals.pair.Goals as goal
 pub returns : goal.returns
 returns c =
     joined c.args.text ((48 + c.args.n / 10 % 10) ∷ []) ((48 + c.args.n % 10) ∷ [])
-    (c.with-tens.ensures ∙ writes_one c.args.text _) (c.with.ensures ∙ writes_one _ _)
+    (c.with.ensures ∙ writes_one c.args.text _) (c.with-2.ensures ∙ writes_one _ _)

@@ -8,5 +8,5 @@ use Rattle.screen.proofs.decimals.share.Goals as goal
 
 pub returns : goal.returns
 returns c =
-    joined c.args.text (decimal_of (c.args.h / 100)) _ c.decimal-whole.ensures
-    (joined _ (chars ".") (pair_of c.args.h) c.characters-point.ensures c.pair.ensures)
+    joined c.args.text (decimal_of (c.args.h / 100)) _ c.decimal.ensures
+    (joined _ (chars ".") (pair_of c.args.h) c.characters.ensures c.pair.ensures)

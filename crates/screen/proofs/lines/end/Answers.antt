@@ -10,14 +10,14 @@ use Rattle.screen.proofs.lines.end.Goals as goal
 
 pub returns-then-end-eq0 : goal.returns-then-end-eq0
 returns-then-end-eq0 c =
-    joined c.args.text (chars "does not end in ") _ c.characters-not.ensures
-    (joined _ (decimal_of c.args.ticks) _ c.decimal-number.ensures
-    (joined _ (chars " ticks, ") (time_text c.args.ticks) c.characters-unit.ensures c.time.ensures))
+    joined c.args.text (chars "does not end in ") _ c.characters.ensures
+    (joined _ (decimal_of c.args.ticks) _ c.decimal.ensures
+    (joined _ (chars " ticks, ") (time_text c.args.ticks) c.characters-told.ensures c.time.ensures))
     ∙ ap (writes c.args.text) (on_eq c.args.end 0 _ _ _ c.if-end-eq0.true refl)
 
 pub returns : goal.returns
 returns c =
-    joined c.args.text (chars "ends in tick ") _ c.characters-word.ensures
-    (joined _ (decimal_of c.args.end) _ c.decimal-number-2.ensures
-    (joined _ (chars ", ") (time_text c.args.end) c.characters-comma.ensures c.time-2.ensures))
+    joined c.args.text (chars "ends in tick ") _ c.characters-2.ensures
+    (joined _ (decimal_of c.args.end) _ c.decimal-2.ensures
+    (joined _ (chars ", ") (time_text c.args.end) c.characters-told-2.ensures c.time-2.ensures))
     ∙ ap (writes c.args.text) (on_ne c.args.end 0 _ _ _ c.if-end-eq0.false refl)

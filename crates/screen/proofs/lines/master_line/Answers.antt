@@ -11,10 +11,10 @@ use Rattle.screen.proofs.lines.master_line.Goals as goal
 pub returns : goal.returns
 returns c =
     record {
-      value = joined c.args.text (chars "master ") _ c.characters-word.ensures
-          (joined _ (decimal_of c.args.master) _ c.decimal-number.ensures
+      value = joined c.args.text (chars "master ") _ c.characters.ensures
+          (joined _ (decimal_of c.args.master) _ c.decimal.ensures
           (joined _ (chars ": ") _ c.characters-mark.ensures
-          (joined _ (end_text c.args.tick c.args.ticks) (chars " s" ++ (10 ∷ [])) c.end-told.ensures
-          c.characters.ensures)));
+          (joined _ (end_text c.args.tick c.args.ticks) (chars " s" ++ (10 ∷ [])) c.end.ensures
+          c.characters-2.ensures)));
       ticks_len_bound = master_length c.args.master c.args.tick c.args.ticks (omega arith) (omega arith) (omega arith);
     }

@@ -13,16 +13,16 @@ use Rattle.screen.proofs.lines.wine_line.Goals as goal
 
 pub returns : goal.returns
 returns c =
-    let x : c.pulses-pulses.result ≡ pulses c.args.trial c.args.k = c.pulses-pulses.ensures in record {
-      value = joined c.args.text (chars "wine ") _ c.characters-word.ensures
-          (joined _ (decimal_of c.args.k) _ c.decimal-number.ensures
-          (joined _ (chars ": ") _ c.characters-mark.ensures
+    let x : c.pulses.result ≡ pulses c.args.trial c.args.k = c.pulses.ensures in record {
+      value = joined c.args.text (chars "wine ") _ c.characters.ensures
+          (joined _ (decimal_of c.args.k) _ c.decimal.ensures
+          (joined _ (chars ": ") _ c.characters-2.ensures
           (joined _ (decimal_of (pulses c.args.trial c.args.k)) _
-          (c.decimal-count.ensures ∙ ap (λ (n : ℕ). writes c.characters-mark.result (decimal_of n)) x)
-          (joined _ (chars " pulses, ") _ c.characters-unit.ensures
+          (c.decimal-2.ensures ∙ ap (λ (n : ℕ). writes c.characters-2.result (decimal_of n)) x)
+          (joined _ (chars " pulses, ") _ c.characters-told.ensures
           (joined _ (share_text (share_at c.args.trial c.args.k)) (chars " %" ++ (10 ∷ []))
-          (c.share-part.ensures
-          ∙ ap (λ (h : ℕ). writes c.characters-unit.result (share_text h)) c.share_at-share.ensures)
-          c.characters.ensures)))));
+          (c.share.ensures
+          ∙ ap (λ (h : ℕ). writes c.characters-told.result (share_text h)) c.share_at.ensures)
+          c.characters-3.ensures)))));
       k_len_bound = wine_length c.args.trial c.args.k c.requires (omega (arith, x));
     }

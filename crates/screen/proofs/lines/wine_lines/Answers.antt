@@ -2,7 +2,7 @@
 use Prim.Native.Nat.{ℕ, ◌*◌, ◌≤◌}
 use native.Mathlib.Numerals.{add-one}
 use native.Mathlib.Omega.{arith}
-use mathlib.Core.Path.{◌≡◌, sym, ap, subst, ◌∙◌}
+use mathlib.Core.Path.{sym, ap, subst, ◌∙◌}
 use lib.ListN.{length}
 use Rattle.text.specs.Text.{writes}
 use Rattle.text.proofs.TextLaws.{writes_none, joined}
@@ -12,28 +12,14 @@ use Rattle.screen.proofs.lines.wine_lines.Goals as goal
 
 pub loop-k-init : goal.loop-k-init
 unfolding wine_lines
-loop-k-init c = (omega arith, writes_none c.args.text, omega arith)
-
-pub overflow_add-k : goal.overflow_add-k
-overflow_add-k c = record { fits = omega (arith, c.loop-k-test.true) }
-
-pub loop-k-smaller : goal.loop-k-smaller
-loop-k-smaller c = omega (arith, c.loop-k-test.true)
+loop-k-init c = (writes_none c.args.text, omega arith)
 
 pub loop-k-preserved : goal.loop-k-preserved
 unfolding wine_lines
 loop-k-preserved c = (
-  omega (arith, c.loop-k-test.true),
-  joined c.args.text (wine_lines c.loop-k.k c.args.trial) (wine_line c.args.trial c.loop-k.k) c.loop-k.invariant.1
-      c.wine_line-more.ensures.value
+  joined c.args.text (wine_lines c.loop-k.k c.args.trial) (wine_line c.args.trial c.loop-k.k) c.loop-k.invariant.0
+      c.wine_line-next.ensures.value
       ∙ ap (λ (n : ℕ). writes c.args.text (wine_lines n c.args.trial)) (sym (add-one c.loop-k.k)),
   subst (λ (n : ℕ). length (wine_lines n c.args.trial) ≤ n * 36) (sym (add-one c.loop-k.k))
-      (wines_more c.args.trial c.loop-k.k c.loop-k.invariant.2 c.wine_line-more.ensures.k_len_bound),
+      (wines_more c.args.trial c.loop-k.k c.loop-k.invariant.1 c.wine_line-next.ensures.k_len_bound),
 )
-
-pub returns : goal.returns
-returns c =
-    let e : c.loop-k.k ≡ 5 = omega (arith, c.loop-k.invariant.0, c.loop-k-test.false) in record {
-      value = c.loop-k.invariant.1 ∙ ap (λ (n : ℕ). writes c.args.text (wine_lines n c.args.trial)) e;
-      trial_len_bound = subst (λ (n : ℕ). length (wine_lines n c.args.trial) ≤ n * 36) e c.loop-k.invariant.2;
-    }

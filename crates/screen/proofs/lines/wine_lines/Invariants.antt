@@ -1,5 +1,5 @@
 -- The lines of all wines. The invariant: those of the first k are written. Assumes nothing.
-use Prim.Native.Nat.{◌*◌, ◌-◌, ◌≤◌}
+use Prim.Native.Nat.{◌*◌, ◌≤◌}
 use mathlib.Core.Path.{◌≡◌}
 use lib.ListN.{length}
 use Rattle.text.specs.Text.{writes}
@@ -8,7 +8,4 @@ use Rattle.screen.proofs.lines.wine_lines.Given as goal
 
 abbrev pub invariant-loop-k : goal.invariant-loop-k
 invariant-loop-k l =
-    (l.k ≤ 5) × (l.next ≡ writes l.initial.next (wine_lines l.k l.trial)) × (length (wine_lines l.k l.trial) ≤ l.k * 36)
-
-abbrev pub decreases-loop-k : goal.decreases-loop-k
-decreases-loop-k l = 5 - l.k
+    (l.next ≡ writes l.initial.next (wine_lines l.k l.trial)) × (length (wine_lines l.k l.trial) ≤ l.k * 36)

@@ -2,33 +2,18 @@
 use Prim.Native.Nat.{ℕ, ◌+◌}
 use native.Mathlib.Numerals.{add-one}
 use native.Mathlib.Omega.{arith}
-use mathlib.Core.Path.{◌≡◌, refl, sym, ap, ◌∙◌}
-use Rattle.screen.specs.Screen.{pulses_in}
+use mathlib.Core.Path.{refl, sym, ap, ◌∙◌}
+use Rattle.screen.specs.Screen.{pulses, pulses_in}
 use Rattle.screen.proofs.shares.all_pulses.Goals as goal
 
-pub loop-k-init : goal.loop-k-init
+pub loop-travel-init : goal.loop-travel-init
 unfolding pulses_in
-loop-k-init c = (omega arith, omega arith, refl)
+loop-travel-init c = (omega arith, refl)
 
-pub overflow_add-sum : goal.overflow_add-sum
-overflow_add-sum c = record { fits = omega (arith, c.loop-k.invariant.1, c.loop-k-test.true) }
-
-pub overflow_add-k : goal.overflow_add-k
-overflow_add-k c = record { fits = omega (arith, c.loop-k-test.true) }
-
-pub loop-k-smaller : goal.loop-k-smaller
-loop-k-smaller c = omega (arith, c.loop-k-test.true)
-
-pub loop-k-preserved : goal.loop-k-preserved
+pub loop-travel-preserved : goal.loop-travel-preserved
 unfolding pulses_in
-loop-k-preserved c = (
-  omega (arith, c.loop-k-test.true),
-  omega (arith, c.loop-k.invariant.1),
-  (λ i. c.loop-k.invariant.2 i + c.pulses.ensures i)
-      ∙ ap (λ (n : ℕ). pulses_in n c.args.trial) (sym (add-one c.loop-k.k)),
+loop-travel-preserved c = (
+  omega (arith, c.loop-travel.invariant.0),
+  (λ i. c.loop-travel.invariant.1 i + pulses c.args.trial c.loop-travel.travel-index)
+      ∙ ap (λ (n : ℕ). pulses_in n c.args.trial) (sym (add-one c.loop-travel.travel-index)),
 )
-
-pub returns : goal.returns
-returns c =
-    let e : c.loop-k.k ≡ 5 = omega (arith, c.loop-k.invariant.0, c.loop-k-test.false) in
-    c.loop-k.invariant.2 ∙ ap (λ (n : ℕ). pulses_in n c.args.trial) e

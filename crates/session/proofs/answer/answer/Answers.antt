@@ -25,18 +25,18 @@ write_behind-length-requires c =
     let k = ran_small _ _ _ _ (c.run_ticks-ran.ensures.made r.switch r.history r.made) in
     omega (arith, k, c.run_ticks-ran.auto.buf, c.show.auto.buf, c.requires.in_bounds)
 
-pub returns-in-Malformed : goal.returns-in-Malformed
-returns-in-Malformed c =
+pub returns-in_default : goal.returns-in_default
+returns-in_default c =
     let q = c.question in
     let d = c.args.buf.now in
-    λ s h e. subst (λ a. Told q.result q.new.buf d (asks (state s h) a)) (sym c.in-Malformed.is)
+    λ s h e. subst (λ a. Told q.result q.new.buf d (asks (state s h) a)) (sym c.in_default.is)
     (question_told (state s h) d q.new.buf c.args.c q.result e q.ensures.0 q.ensures.1)
 
-pub returns-in-Ticks : goal.returns-in-Ticks
-returns-in-Ticks c =
+pub returns : goal.returns
+returns c =
     let r = c.run_ticks-ran in
     let w = c.write_behind-length in
     let d = c.args.buf.now in
-    λ s h e. subst (λ a. Told c.stand.result w.new.buf d (asks (state s h) a)) (sym c.in-Ticks.is)
+    λ s h e. subst (λ a. Told c.stand.result w.new.buf d (asks (state s h) a)) (sym c.in-Some.is)
     (ticks_told (state s h) d w.new.buf _ _ r.result r.new.buf c.show.new.buf w.result c.stand.result
     (r.ensures.made s h e) (r.ensures.made_2 s h e) c.show.ensures w.ensures.value w.ensures.buf_after c.stand.ensures)

@@ -5,5 +5,5 @@ use Rattle.session.proofs.opening.opened.Goals as goal
 
 pub returns : goal.returns
 returns c =
-    opened_is _ _ _ _ _ _ (ap (λ x. x.controller) c.power_on-on.ensures.value)
-    c.watch_off-line.ensures.value c.gather-gathered.ensures c.send-ended.ensures
+    opened_is _ _ _ _ _ _ (ap (λ x. x.controller) c.power_on.ensures.value)
+    c.watch_off-line.ensures.value c.gather-gathered.ensures c.send.ensures

@@ -1,19 +1,13 @@
--- The sums behind what stands before them: written to the part of the buffer from there on. Assumes nothing.
-use native.Mathlib.Omega.{arith}
-use Rattle.session.proofs.TextLaws.{behind}
+-- The sums behind what stands before them: copied to the part of the buffer from there on. Assumes nothing.
+use mathlib.Core.Path.{sym, ap, ◌∙◌}
+use lib.ListN.{length}
+use Rattle.session.specs.Text.{sums_text}
+use Rattle.session.proofs.TextLaws.{copied}
 use Rattle.session.proofs.sums.write_behind.Goals as goal
 
-pub overflow_add-result : goal.overflow_add-result
-overflow_add-result c =
-    let b = behind c.args.sums c.args.buf.now c.args.at c.write_sums.result c.write_sums.new.buf
-    c.requires c.write_sums.ensures.value c.write_sums.ensures.buf_after c.write_sums.auto.buf in
-    omega (arith, b.room)
-
-pub returns : goal.returns
-returns c =
-    let b = behind c.args.sums c.args.buf.now c.args.at c.write_sums.result c.write_sums.new.buf
-    c.requires c.write_sums.ensures.value c.write_sums.ensures.buf_after c.write_sums.auto.buf in
-    record {
-      value = b.place;
-      buf_after = b.whole;
-    }
+pub returns-clause-buf_after : goal.returns-clause-buf_after
+returns-clause-buf_after c =
+    let t = c.line-text in
+    let e = c.copy_from_slice.ensures.after in
+    copied (sums_text 5 c.args.sums) t.result t.ensures.value t.ensures.room c.args.at _ c.args.buf.now _
+    (e ∙ c.bytes-bytes.ensures) (sym (ap length e))

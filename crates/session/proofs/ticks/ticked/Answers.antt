@@ -10,8 +10,8 @@ use Rattle.session.specs.Ticks.{Rooms, added_of, later_of}
 use Rattle.session.proofs.SumLaws.{rooms}
 use Rattle.session.proofs.ticks.ticked.Goals as goal
 
-pub added-more-requires : goal.added-more-requires
-added-more-requires c =
+pub added-requires : goal.added-requires
+added-requires c =
     let r = c.requires.reachable in
     let m = state r.switch r.history in
     subst (λ (ps : List ℤ). Rooms c.args.ran.sums ps)
@@ -28,9 +28,9 @@ returns c =
           let q = a.ensures.0 s h e ∙ ap held_tick (any_lent (state s h) c.args.word d c.requires.in_bounds) in
           λ i. record {
             controller = (q i).controller;
-            sums = (c.added-more.ensures ∙ ap (λ x. added_of n.sums x.pulses) q) i;
-            number = (c.later-number.ensures ∙ ap (λ x. later_of n.number x.number) q) i;
-            length = (c.later-length.ensures ∙ ap (λ x. later_of n.length x.length) q) i;
+            sums = (c.added.ensures ∙ ap (λ x. added_of n.sums x.pulses) q) i;
+            number = (c.later.ensures ∙ ap (λ x. later_of n.number x.number) q) i;
+            length = (c.later-2.ensures ∙ ap (λ x. later_of n.length x.length) q) i;
           };
       made_2 = λ s h e. a.ensures.1.0 s h e
           ∙ ap (λ x. over x.reply d) (any_lent (state s h) c.args.word d c.requires.in_bounds);

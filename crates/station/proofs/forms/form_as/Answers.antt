@@ -1,40 +1,30 @@
 -- The four names, one after another. Assumes nothing.
-use mathlib.Core.Path.{refl, ◌∙◌}
-use Rattle.laws.proofs.Pick.{told_true, told_false}
+use Prim.Native.Nat.{ℕ}
+use mathlib.Core.Bool.{Bool}
+use mathlib.Core.List.{List}
+use mathlib.Core.Path.{◌≡◌, ap, ◌∙◌}
+use Rattle.std.specs.Str.{bytes_eq}
+use Rattle.laws.proofs.Pick.{tolds}
+use Rattle.text.specs.Parts.{same}
+use Rattle.text.proofs.PartLaws.{equal_same}
 use Rattle.station.proofs.FormLaws.{name_read}
 use Rattle.station.proofs.forms.form_as.Goals as goal
 
-pub returns-then-same : goal.returns-then-same
-returns-then-same c =
-    told_true _ _ _ _ _ c.same.ensures c.if-same.true c.speed.ensures
-    ∙ name_read c.args.t.now c.args.name.now
+-- The answer r of `==` for a name and the slice p, which holds w.
+equal : (r : Bool) (name p w : List ℕ) → r ≡ bytes_eq name p → p ≡ w → r ≡ same name w
+equal r name p w e f = e ∙ equal_same name p ∙ ap (same name) f
 
-pub returns-then-same-2 : goal.returns-then-same-2
-returns-then-same-2 c =
-    told_false _ _ _ _ _ c.same.ensures c.if-same.false
-    (told_true _ _ _ _ _ c.same-2.ensures c.if-same-2.true c.single.ensures)
-    ∙ name_read c.args.t.now c.args.name.now
+pub returns-then-eq : goal.returns-then-eq
+returns-then-eq c = search (tolds, equal) depth 15 ∙ name_read c.args.t.now c.args.name.now
 
-pub returns-then-same-3 : goal.returns-then-same-3
-returns-then-same-3 c =
-    told_false _ _ _ _ _ c.same.ensures c.if-same.false
-    (told_false _ _ _ _ _ c.same-2.ensures c.if-same-2.false
-    (told_true _ _ _ _ _ c.same-3.ensures c.if-same-3.true c.pair.ensures))
-    ∙ name_read c.args.t.now c.args.name.now
+pub returns-then-eq-2 : goal.returns-then-eq-2
+returns-then-eq-2 c = search (tolds, equal) depth 15 ∙ name_read c.args.t.now c.args.name.now
 
-pub returns-then-same-4 : goal.returns-then-same-4
-returns-then-same-4 c =
-    told_false _ _ _ _ _ c.same.ensures c.if-same.false
-    (told_false _ _ _ _ _ c.same-2.ensures c.if-same-2.false
-    (told_false _ _ _ _ _ c.same-3.ensures c.if-same-3.false
-    (told_true _ _ _ _ _ c.same-4.ensures c.if-same-4.true c.stop.ensures)))
-    ∙ name_read c.args.t.now c.args.name.now
+pub returns-then-eq-3 : goal.returns-then-eq-3
+returns-then-eq-3 c = search (tolds, equal) depth 15 ∙ name_read c.args.t.now c.args.name.now
+
+pub returns-then-eq-4 : goal.returns-then-eq-4
+returns-then-eq-4 c = search (tolds, equal) depth 15 ∙ name_read c.args.t.now c.args.name.now
 
 pub returns : goal.returns
-returns c =
-    told_false _ _ _ _ _ c.same.ensures c.if-same.false
-    (told_false _ _ _ _ _ c.same-2.ensures c.if-same-2.false
-    (told_false _ _ _ _ _ c.same-3.ensures c.if-same-3.false
-    (told_false _ _ _ _ _ c.same-4.ensures c.if-same-4.false
-    refl)))
-    ∙ name_read c.args.t.now c.args.name.now
+returns c = search (tolds, equal) depth 15 ∙ name_read c.args.t.now c.args.name.now

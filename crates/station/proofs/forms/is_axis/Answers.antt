@@ -1,9 +1,10 @@
--- X or Y, by the two tests. Assumes nothing.
-use mathlib.Core.Path.{sym, ◌∙◌}
+-- X or Y: the search through both. Assumes nothing.
+use mathlib.Core.List.{[], ◌∷◌}
+use mathlib.Core.Path.{◌∙◌, ◌≡◌}
+use Rattle.station.proofs.NameLaws.{found, found_two}
 use Rattle.station.proofs.forms.is_axis.Goals as goal
 
-pub returns-then-same : goal.returns-then-same
-returns-then-same c = rw (sym c.same.ensures ∙ c.if-same.true)
-
 pub returns : goal.returns
-returns c = rw (sym c.same.ensures ∙ c.if-same.false) c.same-2.ensures
+returns c =
+    let e : c.contains.result ≡ found c.args.w.now ("X" ∷ "Y" ∷ []) = c.contains.ensures.value in
+    e ∙ found_two c.args.w.now "X" "Y"

@@ -1,40 +1,21 @@
--- The four texts, one after another. Assumes nothing.
-use mathlib.Core.Path.{refl, ◌∙◌}
-use Rattle.laws.proofs.Pick.{told_true, told_false}
-use Rattle.station.proofs.FormLaws.{stop_read}
+-- One of the four texts. Assumes nothing.
+use Rattle.std.specs.Bool.{then_some}
+use mathlib.Core.Bool.{Bool, true, false, cond}
+use mathlib.Core.List.{[], ◌∷◌}
+use mathlib.Core.Path.{refl, ap, ◌∙◌, ◌≡◌}
+use Rattle.station.specs.declared.forms.Form.TheVariants as F
+use Rattle.station.specs.Forms.{stop, other}
+use Rattle.station.specs.Held.{held_form}
+use Rattle.station.proofs.NameLaws.{found, found_four}
 use Rattle.station.proofs.forms.stop.Goals as goal
 
-pub returns-then-same : goal.returns-then-same
-returns-then-same c =
-    told_true _ _ _ _ _ c.same.ensures c.if-same.true refl
-    ∙ stop_read c.args.t.now
-
-pub returns-then-same-2 : goal.returns-then-same-2
-returns-then-same-2 c =
-    told_false _ _ _ _ _ c.same.ensures c.if-same.false
-    (told_true _ _ _ _ _ c.same-2.ensures c.if-same-2.true refl)
-    ∙ stop_read c.args.t.now
-
-pub returns-then-same-3 : goal.returns-then-same-3
-returns-then-same-3 c =
-    told_false _ _ _ _ _ c.same.ensures c.if-same.false
-    (told_false _ _ _ _ _ c.same-2.ensures c.if-same-2.false
-    (told_true _ _ _ _ _ c.same-3.ensures c.if-same-3.true refl))
-    ∙ stop_read c.args.t.now
-
-pub returns-then-same-4 : goal.returns-then-same-4
-returns-then-same-4 c =
-    told_false _ _ _ _ _ c.same.ensures c.if-same.false
-    (told_false _ _ _ _ _ c.same-2.ensures c.if-same-2.false
-    (told_false _ _ _ _ _ c.same-3.ensures c.if-same-3.false
-    (told_true _ _ _ _ _ c.same-4.ensures c.if-same-4.true refl)))
-    ∙ stop_read c.args.t.now
+held : (t : Bool) → then_some t F.Stop ≡ held_form (cond t stop other)
+held true = refl
+held false = refl
 
 pub returns : goal.returns
 returns c =
-    told_false _ _ _ _ _ c.same.ensures c.if-same.false
-    (told_false _ _ _ _ _ c.same-2.ensures c.if-same-2.false
-    (told_false _ _ _ _ _ c.same-3.ensures c.if-same-3.false
-    (told_false _ _ _ _ _ c.same-4.ensures c.if-same-4.false
-    refl)))
-    ∙ stop_read c.args.t.now
+    let t = c.args.t.now in
+    let e : c.contains.result ≡ found t ("SST X" ∷ "SST Y" ∷ "SST X,Y" ∷ "SST X, Y" ∷ []) = c.contains.ensures.value in
+    c.then_some.ensures ∙ held c.contains.result
+    ∙ ap (λ (b : Bool). held_form (cond b stop other)) (e ∙ found_four t "SST X" "SST Y" "SST X,Y" "SST X, Y")

@@ -6,5 +6,5 @@ use Rattle.text.proofs.Text.+decimal.Goals as goal
 pub returns-then-n-lt10 : goal.returns-then-n-lt10
 returns-then-n-lt10 t c = one_digit c.args.self c.args.n (omega arith) c.with.ensures
 
-pub returns : goal.returns
-returns t c = more_digits c.args.self c.args.n (omega arith) c.decimal-high.ensures c.with-2.ensures
+pub returns-else-n-lt10 : goal.returns-else-n-lt10
+returns-else-n-lt10 t c = more_digits c.args.self c.args.n (omega arith) c.decimal.ensures c.with-else-n-lt10.ensures

@@ -1,26 +1,13 @@
--- Bytes one after another. The invariant: those so far are written. The measure is the bytes left. Assumes nothing.
-use native.Mathlib.Omega.{arith}
-use Rattle.text.proofs.TextLaws.{writes_none, taken_one, taken_all}
+-- Bytes one after another. Assumes nothing.
+use Rattle.std.proofs.Common.{◌∙◌, rules, tests}
+use Rattle.std.proofs.lemmas.Iterator.{YieldsList-from_slice}
+use Rattle.std.proofs.lemmas.Iterator.Consumers.{fold_from_yields_List}
+use Rattle.text.specs.Text.{push_of}
+use Rattle.text.proofs.TextLaws.{writes_folded}
 use Rattle.text.proofs.Text.characters.Goals as goal
-
-pub loop-i-init : goal.loop-i-init
-loop-i-init c = (omega arith, writes_none c.args.self)
-
-pub bounds-cs-i : goal.bounds-cs-i
-bounds-cs-i c = omega arith
-
-pub overflow_add-i : goal.overflow_add-i
-overflow_add-i c = omega arith
-
-pub loop-i-smaller : goal.loop-i-smaller
-loop-i-smaller c = omega arith
-
-pub loop-i-preserved : goal.loop-i-preserved
-loop-i-preserved c = (
-  omega arith,
-  taken_one c.args.self c.args.cs.now c.loop-i.i (omega arith) c.loop-i.invariant.1 c.with-more.ensures,
-)
 
 pub returns : goal.returns
 returns c =
-    taken_all c.args.self c.args.cs.now c.loop-i.i (omega arith) c.loop-i.invariant.1
+    fold_from_yields_List _ push_of c.args.self _ c.fold.ensures.ran (YieldsList-from_slice c.args.cs.now cc)
+    (λ a x r q k. search (rules, tests))
+    ∙ writes_folded c.args.self c.args.cs.now

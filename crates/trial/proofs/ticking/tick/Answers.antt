@@ -13,5 +13,5 @@ returns c =
     let p = c.tick-a.ensures.0 s h e ∙ ap held_tick lent in
     λ i. record {
       controller = (p i).controller;
-      end = (c.first-end.ensures ∙ (λ j. first_of c.args.was.end (p j).ended c.args.n)) i;
+      end = (c.first.ensures ∙ (λ j. first_of c.args.was.end (p j).ended c.args.n)) i;
     }

@@ -3,9 +3,9 @@ use Rattle.std.proofs.Common.{T, sym, subst}
 use lib.Ieee.{of_bits, neg}
 use Rattle.vectors.proofs.settings.quarters_of.Goals as goal
 
-pub truncating_f64_to_u64-count-requires : goal.truncating_f64_to_u64-count-requires
+pub truncating_f64_to_u64-requires : goal.truncating_f64_to_u64-requires
 unfolding of_bits neg
-truncating_f64_to_u64-count-requires c = record {
+truncating_f64_to_u64-requires c = record {
   lower_bound = subst T (sym c.if-y.true) tt;
   upper_bound = subst T (sym c.if-y-2.true) tt;
 }

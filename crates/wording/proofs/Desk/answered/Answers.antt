@@ -8,4 +8,4 @@ use Rattle.wording.proofs.Desk.answered.Goals as goal
 
 pub returns : goal.returns
 returns c =
-    c.answer.ensures.value ∙ ap (λ (l : List ℕ). holding (answer_of l)) c.front.ensures
+    c.answer.ensures.value ∙ ap (λ (l : List ℕ). holding (answer_of l)) c.bytes.ensures

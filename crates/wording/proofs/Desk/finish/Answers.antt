@@ -5,9 +5,9 @@ use Rattle.wording.specs.Wording.{finished_of}
 use Rattle.wording.proofs.WordingLaws.{finished_desk}
 use Rattle.wording.proofs.Desk.finish.Goals as goal
 
-pub returns-then-line-eq0 : goal.returns-then-line-eq0
-returns-then-line-eq0 c =
-    let e : _ ≡ finished_of c.args.self = on_eq c.args.self.line.count 0 _ _ _ c.if-line-eq0.true c.new.ensures in
+pub returns-then-self-eq0 : goal.returns-then-self-eq0
+returns-then-self-eq0 c =
+    let e : _ ≡ finished_of c.args.self = on_eq c.args.self.line.count 0 _ _ _ c.if-self-eq0.true c.new.ensures in
     record {
       value = e;
       desks = finished_desk c.args.self _ e;
@@ -16,7 +16,7 @@ returns-then-line-eq0 c =
 pub returns : goal.returns
 returns c =
     let e : _ ≡ finished_of c.args.self =
-    on_ne c.args.self.line.count 0 _ _ _ c.if-line-eq0.false c.answered.ensures in
+    on_ne c.args.self.line.count 0 _ _ _ c.if-self-eq0.false c.answered.ensures in
     record {
       value = e;
       desks = finished_desk c.args.self _ e;

@@ -4,6 +4,6 @@ use Rattle.wording.proofs.Desk.new.Goals as goal
 
 pub returns : goal.returns
 returns c = record {
-  value = λ i. record { line = c.new-line.ensures i };
+  value = λ i. record { line = c.new.ensures i };
   answers_in_order = answers_are;
 }

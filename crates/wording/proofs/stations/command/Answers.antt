@@ -10,6 +10,6 @@ use Rattle.wording.proofs.stations.command.Goals as goal
 pub returns : goal.returns
 returns c =
     writes_last (holding []) c.args.line.now 0
-    (c.characters-typed.ensures ∙ ap (λ (t : Text). writes t c.args.line.now) c.new.ensures)
+    (c.characters.ensures ∙ ap (λ (t : Text). writes t c.args.line.now) c.new.ensures)
     c.with.ensures
     ∙ writes_holding [] (command_in c.args.line.now)

@@ -19,26 +19,26 @@ lined-requires c =
     let k = c.take-taken.ensures.holding m.line (ap (λ (x : Controller). x.cold.line) c.requires.made) in (
       c.if-buf-lt-REPLY_ROOM.false,
       byte_judged m c.args.b c.args.buf.now f c.args.self c.requires.made c.if-buf-lt-REPLY_ROOM.false _ k _
-          c.with_line-controller.ensures _ _ _ c.in-Line.is,
+          c.with_line-controller.ensures _ _ _ c.in-Some.is,
       heard_number m c.args.b c.args.buf.now f c.args.self c.requires.made c.if-buf-lt-REPLY_ROOM.false _ k _
           c.with_line-controller.ensures,
     )
 
-pub returns-in-Character : goal.returns-in-Character
-returns-in-Character c =
+pub returns-in-None : goal.returns-in-None
+returns-in-None c =
     byte_answers c.args.self c.requires c.args.b c.args.buf.now _ _
     (λ s h e. byte_gathered (state s h) c.args.b c.args.buf.now (fits s h) c.args.self e
     c.if-buf-lt-REPLY_ROOM.false _
     (c.take-taken.ensures.holding (state s h).line
     (ap (λ (x : Controller). x.cold.line) e)) _ c.with_line-controller.ensures
-    c.in-Character.is)
+    c.in-None.is)
 
-pub returns-in-Line : goal.returns-in-Line
-returns-in-Line c =
+pub returns-in-Some : goal.returns-in-Some
+returns-in-Some c =
     byte_answers c.args.self c.requires c.args.b c.args.buf.now _ _
     (λ s h e. byte_lined (state s h) c.args.b c.args.buf.now (fits s h) c.args.self e
     c.if-buf-lt-REPLY_ROOM.false
     _ (c.take-taken.ensures.holding (state s h).line (ap (λ (x : Controller). x.cold.line) e)) _
     c.with_line-controller.ensures _ _ _ _ _
-    c.in-Line.is c.lined.ensures.value
+    c.in-Some.is c.lined.ensures.value
     c.lined.ensures.buf_after)

@@ -6,8 +6,6 @@ use Rattle.controller.specs.declared.state.Controller.{Controller}
 use Rattle.controller.proofs.AnswerLaws.{positions_signed}
 use Rattle.controller.proofs.state.Controller.positions.Goals as goal
 
-pub returns : goal.returns
-returns c = record {
-  positions_of = λ s h e. ap (λ (x : Controller). x.hot.counters.positions) (sym e);
-  made = λ s h e. ap (λ (x : Controller). map position_of x.hot.counters.positions) (sym e) ∙ positions_signed s h;
-}
+pub returns-clause-made : goal.returns-clause-made
+returns-clause-made c =
+    λ s h e. ap (λ (x : Controller). map position_of x.hot.counters.positions) (sym e) ∙ positions_signed s h

@@ -1,28 +1,13 @@
--- Characters one after another. The invariant: those so far are kept. The measure is the characters left. Assumes
--- nothing.
-use native.Mathlib.Omega.{arith}
-use Rattle.session.proofs.KeptLaws.{kept_none, kept_one, kept_all}
+-- Characters one after another, on every list so kept. Assumes nothing.
+use Rattle.std.proofs.Common.{◌∙◌, rules, tests}
+use Rattle.std.proofs.lemmas.Iterator.{YieldsList-from_slice}
+use Rattle.std.proofs.lemmas.Iterator.Consumers.{fold_from_yields_List}
+use Rattle.session.specs.Kept.{push_of}
+use Rattle.session.proofs.KeptLaws.{kept_all}
 use Rattle.session.proofs.kept.Kept.push_all.Goals as goal
-
-pub loop-i-init : goal.loop-i-init
-loop-i-init c = (omega arith, kept_none c.args.self c.args.cs.now)
-
-pub bounds-cs-i : goal.bounds-cs-i
-bounds-cs-i c = omega arith
-
-pub overflow_add-i : goal.overflow_add-i
-overflow_add-i c = omega arith
-
-pub loop-i-smaller : goal.loop-i-smaller
-loop-i-smaller c = omega arith
-
-pub loop-i-preserved : goal.loop-i-preserved
-loop-i-preserved c = (
-  omega arith,
-  kept_one c.args.self c.loop-i.next c.push-more.result c.args.cs.now c.loop-i.i (omega arith) c.loop-i.invariant.1
-      c.push-more.ensures.keeping,
-)
 
 pub returns : goal.returns
 returns c =
-    kept_all c.args.self c.loop-i.next c.args.cs.now c.loop-i.i (omega arith) c.loop-i.invariant.1
+    λ l e. fold_from_yields_List _ push_of c.args.self _ c.fold.ensures.ran (YieldsList-from_slice c.args.cs.now cc)
+    (λ a x r q k. search (rules, tests))
+    ∙ kept_all c.args.cs.now c.args.self l e

@@ -3,7 +3,7 @@ use mathlib.Core.Path.{subst}
 use Rattle.machine.specs.Calls.{state}
 use Rattle.session.specs.Session.{Told}
 use Rattle.session.proofs.PartLaws.{sent_told}
-use Rattle.session.proofs.PlaceLaws.{at_controller, asked_ended, start_ended, sending_ended}
+use Rattle.session.proofs.PlaceLaws.{at_controller, asked_ended, sent_ended}
 use Rattle.session.proofs.SessionLaws.{reached}
 use Rattle.session.proofs.state.Session.end_line.Goals as goal
 
@@ -19,17 +19,11 @@ send-sent-requires c = record {
   in_bounds = c.requires.in_bounds;
 }
 
-pub send-sent-requires-in-Sending : goal.send-sent-requires-in-Sending
-send-sent-requires-in-Sending c = record {
-  reachable = reached c.args.self c.requires.running;
-  in_bounds = c.requires.in_bounds;
-}
-
 pub returns-in-Asking : goal.returns-in-Asking
 returns-in-Asking c =
     let s = c.args.self in
     let a = c.answer in
-    let asked = c.asked-asked in
+    let asked = c.asked in
     λ w h p e. subst (λ x. Told a.result a.new.buf c.args.buf.now x)
     (asked_ended (state w h) p s e asked.result c.in-Asking.is asked.ensures.keeping)
     (a.ensures w h (at_controller (state w h) p s e))
@@ -40,16 +34,6 @@ returns-in-Start c =
     let a = c.send-sent in
     let r = c.stand in
     λ w h p e. subst (λ x. Told r.result a.new.buf c.args.buf.now x)
-    (start_ended (state w h) p s e c.in-Start.is)
-    (sent_told (state w h) c.args.buf.now a.new.buf 13 a.result r.result
-    (a.ensures w h (at_controller (state w h) p s e)) r.ensures)
-
-pub returns-in-Sending : goal.returns-in-Sending
-returns-in-Sending c =
-    let s = c.args.self in
-    let a = c.send-sent-in-Sending in
-    let r = c.stand-in-Sending in
-    λ w h p e. subst (λ x. Told r.result a.new.buf c.args.buf.now x)
-    (sending_ended (state w h) p s e c.in-Sending.is)
+    (sent_ended (state w h) p s e c.in-Start.is)
     (sent_told (state w h) c.args.buf.now a.new.buf 13 a.result r.result
     (a.ensures w h (at_controller (state w h) p s e)) r.ensures)

@@ -1,14 +1,7 @@
 -- The end of the input, and that the session is again one that calls made. Assumes nothing.
 use native.Mathlib.Omega.{arith}
 use Rattle.machine.specs.Calls.{state}
-use Rattle.session.proofs.PlaceLaws.{
-  rests_told,
-  short_told,
-  long_told,
-  start_finished,
-  sending_finished,
-  asking_finished,
-}
+use Rattle.session.proofs.PlaceLaws.{rests_told, short_told, long_told, start_finished, ended_finished}
 use Rattle.session.proofs.SessionLaws.{finished_told}
 use Rattle.session.proofs.state.Session.finish.Goals as goal
 
@@ -38,16 +31,5 @@ returns-in-Sending c =
     let x = c.end_line.new.buf in
     let t = finished_told s r x d c.requires
     (λ w h p e. long_told (state w h) p s e r x d _ _ (omega arith)
-    (sending_finished (state w h) p s e c.in-Sending.is) (c.end_line.ensures w h p e)) in
-    record { runs = t.0; running = t.1 }
-
-pub returns-in-Asking : goal.returns-in-Asking
-returns-in-Asking c =
-    let s = c.args.self in
-    let d = c.args.buf.now in
-    let r = c.end_line-in-Asking.result in
-    let x = c.end_line-in-Asking.new.buf in
-    let t = finished_told s r x d c.requires
-    (λ w h p e. long_told (state w h) p s e r x d _ _ (omega arith)
-    (asking_finished (state w h) p s e c.in-Asking.is) (c.end_line-in-Asking.ensures w h p e)) in
+    (ended_finished (state w h) p s e c.in-Sending.is) (c.end_line.ensures w h p e)) in
     record { runs = t.0; running = t.1 }

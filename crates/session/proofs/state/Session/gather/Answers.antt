@@ -21,8 +21,8 @@ slice_bounds-gather-end c =
     sym (length-take-le _ _
     (omega (arith, c.before_mark-count.ensures, before_short is_mark c.args.bytes.now)))
 
-pub gather-gathered-requires : goal.gather-gathered-requires
-gather-gathered-requires c = reached c.args.self c.requires
+pub gather-requires : goal.gather-requires
+gather-requires c = reached c.args.self c.requires
 
 pub returns-then-keeps : goal.returns-then-keeps
 returns-then-keeps c =
@@ -30,8 +30,8 @@ returns-then-keeps c =
     let bs = c.args.bytes.now in
     let n = c.before_mark-count in
     let t = gathered_told s bs n.result n.ensures _ c.requires
-    (kept_gathered s bs n.result n.ensures c.keeps.result c.push_all-more.result
-    c.keeps.ensures c.if-keeps.true c.if-count-gt0.true c.push_all-more.ensures) in
+    (kept_gathered s bs n.result n.ensures c.keeps.result c.push_all-kept.result
+    c.keeps.ensures c.if-keeps.true c.if-count-gt0.true c.push_all-kept.ensures) in
     record { runs = t.0; runs_2 = t.1.0; running = t.1.1 }
 
 pub returns-else-keeps : goal.returns-else-keeps
@@ -40,8 +40,8 @@ returns-else-keeps c =
     let bs = c.args.bytes.now in
     let n = c.before_mark-count in
     let t = gathered_told s bs n.result n.ensures _ c.requires
-    (sent_gathered s bs n.result n.ensures c.keeps.result c.gather-gathered.result
-    c.keeps.ensures c.if-keeps.false c.if-count-gt0.true c.gather-gathered.ensures.0) in
+    (sent_gathered s bs n.result n.ensures c.keeps.result c.gather.result
+    c.keeps.ensures c.if-keeps.false c.if-count-gt0.true c.gather.ensures.0) in
     record { runs = t.0; runs_2 = t.1.0; running = t.1.1 }
 
 pub returns-else-count-gt0 : goal.returns-else-count-gt0

@@ -6,7 +6,7 @@ pub returns : goal.returns
 returns c =
     let m = c.args.self.controller in
     λ l e. λ i. record {
-      session = record { controller = m; kept = c.push-kept.ensures.keeping l e i; place = Asking };
+      session = record { controller = m; kept = c.push.ensures.keeping l e i; place = Asking };
       length = 0;
       number = 0;
     }

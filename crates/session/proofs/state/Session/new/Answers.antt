@@ -5,7 +5,7 @@ use Rattle.session.proofs.state.Session.new.Goals as goal
 
 pub returns : goal.returns
 returns c =
-    let t = fresh_told _ _ c.opened-controller.ensures c.new-kept.ensures in
+    let t = fresh_told _ _ c.opened.ensures c.new.ensures in
     record {
       value = t.0;
       running = t.1;

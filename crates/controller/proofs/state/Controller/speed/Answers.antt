@@ -1,7 +1,0 @@
--- `speed` meets its contract: each return, by the tests and the answers that led there. Assumes nothing.
-use mathlib.Core.Path.{sym, ap}
-use Rattle.controller.specs.declared.state.Controller.{Controller}
-use Rattle.controller.proofs.state.Controller.speed.Goals as goal
-
-pub returns : goal.returns
-returns c = λ s h e. ap (λ (x : Controller). x.cold.settings.speed) (sym e)

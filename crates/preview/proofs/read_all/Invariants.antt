@@ -1,6 +1,0 @@
--- Reads until nothing is left to read. The invariant: calls made the session. Assumes nothing.
-use Rattle.session.specs.Session.{Running}
-use Rattle.preview.proofs.read_all.Given as goal
-
-abbrev pub invariant-loop : goal.invariant-loop
-invariant-loop g l = Running l.preview.session
