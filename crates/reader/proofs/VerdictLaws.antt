@@ -76,3 +76,19 @@ verdict_fits n ident e above =
           high = λ (p : 17 < n). absurd (omega arith);
           own = rw (lt-ltb n 8 m) (sym (absent_is ident none));
         }
+
+-- A number over 26 is none.
+pub number_over : (n : ℕ) (ident : Option ℕ) → 26 < n → is_verdict n ident ≡ false
+number_over n ident h =
+    let none : (n ≡ 0 → ⊥) = λ (p : n ≡ 0). omega arith in
+    let far : (n ≡ 26 → ⊥) = λ (p : n ≡ 26). omega arith in
+    let high : 17 < n = omega arith in
+    let above : 7 < n = omega arith in
+    rw (
+      ne_eqb n 0 none,
+      le-leb 8 n (omega arith),
+      lt-leb n 17 high,
+      ne_eqb n 26 far,
+      le-leb 4 n (omega arith),
+      lt-leb n 7 above,
+    )

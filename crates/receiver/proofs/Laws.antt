@@ -4,13 +4,12 @@ use Rattle.std.specs.List.{fold}
 use Rattle.std.specs.List.{prefix_len}
 use Rattle.std.proofs.Common.{None}
 use Prim.Native.Nat.{ℕ, zero, suc, min, ◌+◌, ◌-◌, ◌≤◌, ◌<◌}
-use native.Mathlib.Numerals.{add-one}
 use native.Mathlib.Omega.{arith}
 use mathlib.Core.Bool.{Bool, true, false, cond, not}
 use mathlib.Core.List.{List, [], ◌∷◌, ◌++◌, append-nil}
 use mathlib.Core.Path.{◌≡◌, refl, sym, ap, ◌∙◌}
 use lib.Dec.{eqb}
-use lib.ListN.{length, get_or, take, drop, replicate, length-take, drop_of_length-le}
+use lib.ListN.{length, get_or, take, drop, replicate, length-take}
 use lib.Seq.{take_all, take_at, drop-cons, append_snoc, get_or-take}
 use borrow.Author.Tests.{ne_eqb}
 use Rattle.laws.proofs.Pick.{on_le, by_bool, by_le}
@@ -106,6 +105,11 @@ module _ (marks : ℕ → Bool) where
           → cond (not t) (1 + prefix_len (λ b. not (marks b)) bs) 0 ≡ length (cond t [] (b ∷ before marks bs))
       when true e = refl
       when false e = rw e (omega arith)
+
+  module _ (bs : List ℕ) (i : ℕ) where
+    pub before_mark_lem : i < length bs → marks (get_or bs i 0) ≡ true → length (before marks (drop i bs)) ≡ 0
+    unfolding before
+    before_mark_lem h e = rw (drop-cons bs i 0 h, e)
 
 pub length_before_end : (bs : List ℕ) → prefix_len (λ b. not (eqb b 13)) bs ≡ length (before_end bs)
 length_before_end bs = length_before (λ b. eqb b 13) bs

@@ -1,5 +1,6 @@
 pub mod AnswerLineLaws
 pub mod ConvertedLaws
+pub mod MeantLengths
 pub mod OneLineLaws
 pub mod PageLaws
 pub mod ReplyLineLaws
