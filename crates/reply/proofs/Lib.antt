@@ -1,3 +1,4 @@
+pub mod Figures
 pub mod Replies
 pub mod BlockLaws
 pub mod Examples
