@@ -16,7 +16,7 @@ use Rattle.journal.specs.declared.Refusal.{Refusal}
 use Rattle.journal.specs.declared.Refusal.TheVariants.{NoSpace, CutShort, Wrong}
 use Rattle.journal.specs.Numbers.{Got}
 use Rattle.journal.specs.Numbers.Got.{cut, wrong, got}
-use Rattle.journal.specs.Entries.{ranges, numbers_of, fit_all, spelled, fits, entry_from, as_entry, read_all, read_entry}
+use Rattle.journal.specs.Entries.{ranges, numbers_of, fit_all, spell_all, spelled, fits, entry_from, as_entry, read_all, read_entry}
 use Rattle.journal.specs.Journal.{append_number, appended, append_buffer, nothing_at, answer_at, read_at}
 use Rattle.journal.specs.Inner.{refusal_number, taken, found_at}
 use Rattle.journal.proofs.JudgeLaws.{Fit, read_fit, read_is}
@@ -28,20 +28,21 @@ abbrev number_of : Result Unit Refusal → ℕ
 number_of (Ok x) = 0
 number_of (Err n) = refusal_number n
 
-module _ (d : List ℕ) (at : ℕ) (e : Entry) where
-  pub with_space : fits e ≡ true → at + length (spelled e) ≤ length d → append_number d at e ≡ 0
-  with_space f h = rw (f, le-leb (at + length (spelled e)) (length d) h)
+module _ (size at : ℕ) (ns : List ℕ) where
+  pub with_space : fit_all ranges ns ≡ true → at + length (spell_all ns) ≤ size → taken size at ns ≡ Ok tt
+  with_space f h = rw (f, le-leb (at + length (spell_all ns)) size h)
 
-  -- An entry that nothing refuses fits and has room.
-  pub accepted : append_number d at e ≡ 0 → (fits e ≡ true) × (at + length (spelled e) ≤ length d)
-  accepted h = split (fits e) refl (leb (at + length (spelled e)) (length d)) refl
+  -- Numbers that nothing refuses fit and have room.
+  pub accepted : taken size at ns ≡ Ok tt → (fit_all ranges ns ≡ true) × (at + length (spell_all ns) ≤ size)
+  accepted h = split (fit_all ranges ns) refl (leb (at + length (spell_all ns)) size) refl
     where
-      split : (f : Bool) → fits e ≡ f → (r : Bool) → leb (at + length (spelled e)) (length d) ≡ r
-          → (fits e ≡ true) × (at + length (spelled e) ≤ length d)
-      split true f true r = (f, leb-true (at + length (spelled e)) (length d) r)
+      split : (f : Bool) → fit_all ranges ns ≡ f → (r : Bool) → leb (at + length (spell_all ns)) size ≡ r
+          → (fit_all ranges ns ≡ true) × (at + length (spell_all ns) ≤ size)
+      split true f true r = (f, leb-true (at + length (spell_all ns)) size r)
       split true f false r = let k = rw (f, r) at h in cc
       split false f t r = let k = rw f at h in cc
 
+module _ (d : List ℕ) (at : ℕ) (e : Entry) where
   number_is : append_number d at e ≡ number_of (taken (length d) at (numbers_of e))
   number_is = told (fits e) (room at (spelled e) d)
     where
@@ -52,6 +53,23 @@ module _ (d : List ℕ) (at : ℕ) (e : Entry) where
 
   pub taken_number : taken (length d) at (numbers_of e) ≡ Ok tt → append_number d at e ≡ 0
   taken_number p = number_is ∙ ap number_of p
+
+  -- The entry's own numbers.
+  pub entry_with_space : fits e ≡ true → at + length (spelled e) ≤ length d → append_number d at e ≡ 0
+  entry_with_space f h = taken_number (with_space (length d) at (numbers_of e) f h)
+
+  pub entry_accepted : append_number d at e ≡ 0 → (fits e ≡ true) × (at + length (spelled e) ≤ length d)
+  entry_accepted h = when (taken (length d) at (numbers_of e)) refl
+    where
+      some : (n : Refusal) → (refusal_number n ≡ 0 → ⊥)
+      some NoSpace z = cc
+      some CutShort z = cc
+      some Wrong z = cc
+
+      when : (t : Result Unit Refusal) → taken (length d) at (numbers_of e) ≡ t
+          → (fits e ≡ true) × (at + length (spelled e) ≤ length d)
+      when (Ok tt) q = accepted (length d) at (numbers_of e) q
+      when (Err n) q = absurd (some n (sym (ap number_of q) ∙ sym number_is ∙ h))
 
   pub appended_not : (n : Refusal) → taken (length d) at (numbers_of e) ≡ Err n
       → (◌≡◌ {A = Appended} (record { next = at; number = refusal_number n }) (appended d at e))

@@ -45,19 +45,28 @@ spell_whole ns k e = ap spell_all (take_all k ns (omega arith))
 
 -- ---- counted
 
-counted : (ns : List ℕ) → sum_by (λ n. length (spelling n)) ns ≡ length (spell_all ns)
+pub counted : (ns : List ℕ) (k sum n : ℕ) → k < length ns → sum ≡ length (spell_all (take k ns))
+    → n ≡ length (spelling (get_or ns k 0)) → sum + n ≡ length (spell_all (take (k + 1) ns))
+counted ns k sum n h p q =
+    omega (
+      arith,
+      ap length (spell_next ns k h),
+      length-append (spell_all (take k ns)) (spelling (get_or ns k 0)),
+    )
+
+counted_all : (ns : List ℕ) → sum_by (λ n. length (spelling n)) ns ≡ length (spell_all ns)
 unfolding spell_all
-counted [] = refl
-counted (n ∷ ns) =
+counted_all [] = refl
+counted_all (n ∷ ns) =
     omega (
       arith,
       sum_by-cons (λ (n : ℕ). length (spelling n)) n ns,
-      counted ns,
+      counted_all ns,
       length-append (spelling n) (spell_all ns),
     )
 
 pub spell_sum : (ns : List ℕ) → sum (map (λ n. length (spelling n)) ns) ≡ length (spell_all ns)
-spell_sum ns = sum-map (λ (n : ℕ). length (spelling n)) ns ∙ counted ns
+spell_sum ns = sum-map (λ (n : ℕ). length (spelling n)) ns ∙ counted_all ns
 
 -- ---- written
 

@@ -12,7 +12,7 @@ use Rattle.journal.specs.declared.Entry.{Entry}
 use Rattle.journal.specs.declared.Appended.{Appended}
 use Rattle.journal.specs.Entries.{spelled}
 use Rattle.journal.specs.Journal.{append_number, appended, append_buffer, journal_of, AllFit, Written}
-use Rattle.journal.proofs.AnswerLaws.{with_space, accepted, appended_at}
+use Rattle.journal.proofs.AnswerLaws.{entry_with_space, entry_accepted, appended_at}
 
 told : (b : List ℕ) (p : ℕ) (e : Entry) → (appended b p e).number ≡ 0 → append_number b p e ≡ 0
 unfolding appended
@@ -23,14 +23,14 @@ told b p e h = h
 pub written_fit : (b : List ℕ) (p : ℕ) (es : List Entry) (last : List ℕ) (end : ℕ) → Written b p es last end → AllFit es
 written_fit b p [] last end w = tt
 written_fit b p (e ∷ es) last end w = (
-  (accepted b p e (told b p e w.0)).0,
+  (entry_accepted b p e (told b p e w.0)).0,
   written_fit (append_buffer b p e) (appended b p e).next es last end w.1,
 )
 
 -- The first of them had room.
 pub written_room : (b : List ℕ) (p : ℕ) (e : Entry) (es : List Entry) (last : List ℕ) (end : ℕ)
     → Written b p (e ∷ es) last end → p + length (spelled e) ≤ length b
-written_room b p e es last end w = (accepted b p e (told b p e w.0)).1
+written_room b p e es last end w = (entry_accepted b p e (told b p e w.0)).1
 
 pub written_is : (b : List ℕ) (p : ℕ) (es : List Entry) (last : List ℕ) (end : ℕ) → Written b p es last end
     → take end last ≡ take p b ++ journal_of es
@@ -94,7 +94,7 @@ takes b p [] f h = (sym (put_none p b), omega arith)
 takes b p (e ∷ es) f h =
     let l = length-append (spelled e) (journal_of es) in
     let r : p + length (spelled e) ≤ length b = omega (arith, h, l) in
-    let s = appended_at b p e (with_space b p e f.0 r) in
+    let s = appended_at b p e (entry_with_space b p e f.0 r) in
     let end : p + length (spelled e) + length (journal_of es) ≡ p + length (spelled e ++ journal_of es) =
     omega (arith, l) in
     let rest =

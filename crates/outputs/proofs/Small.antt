@@ -2,11 +2,12 @@
 use Prim.Native.Nat.{ℕ, ◌*◌, ◌^◌, ◌≤◌}
 use mathlib.Core.Bool.{Bool, true, false, not}
 use mathlib.Core.List.{List}
-use mathlib.Core.Path.{◌≡◌}
+use mathlib.Core.Path.{◌≡◌, sym, subst}
 use native.Mathlib.Nat.{pow-le-pow_left}
 use native.Mathlib.Omega.{arith}
 use lib.Dec.{ltb, lit≤}
 use lib.IntN.{ℤ, pos}
+use lib.ListN.{get_or}
 use Rattle.std.specs.Prelude.{sum, ◌<◌}
 use Rattle.laws.specs.Axes.{each, directed}
 use Rattle.laws.proofs.BitLaws.{weight_le}
@@ -63,10 +64,31 @@ small s q o minus = record {
   fire4 = fire_le s q minus 4;
 }
 
--- Those at rest together.
-pub rests_small : (s q : ℕ) (minus : ℕ → Bool) {rests : List ℕ} → rests ≡ each (rest_of s q minus) → sum rests < 4294967296
-rests_small s q minus e =
-    rw e (omega (arith, rest_le s q minus 0, rest_le s q minus 1, rest_le s q minus 2, rest_le s q minus 3, rest_le s q minus 4))
+-- The parts at rest as a list, and together.
+pub record RestsFit (l : List ℕ) : Type 0 where
+  pub at0 : get_or l 0 0 ≤ 15
+  pub at1 : get_or l 1 0 ≤ 240
+  pub at2 : get_or l 2 0 ≤ 3840
+  pub at3 : get_or l 3 0 ≤ 61440
+  pub at4 : get_or l 4 0 ≤ 983040
+  pub all : sum l < 4294967296
+
+pub rests_small : (s q : ℕ) (minus : ℕ → Bool) {rests : List ℕ} → rests ≡ each (rest_of s q minus) → RestsFit rests
+rests_small s q minus e = subst RestsFit (sym e) (record {
+  at0 = rest_le s q minus 0;
+  at1 = rest_le s q minus 1;
+  at2 = rest_le s q minus 2;
+  at3 = rest_le s q minus 3;
+  at4 = rest_le s q minus 4;
+  all = omega (
+    arith,
+    rest_le s q minus 0,
+    rest_le s q minus 1,
+    rest_le s q minus 2,
+    rest_le s q minus 3,
+    rest_le s q minus 4,
+  );
+})
 
 pub rests_total : (s q : ℕ) (minus : ℕ → Bool) {rests : List ℕ} → rests ≡ each (rest_of s q minus) → sum rests ≡ still_of s q minus
 rests_total s q minus e = rw e (omega arith)

@@ -4,7 +4,7 @@ use Rattle.std.proofs.Common.{Option}
 use Prim.Native.Nat.{ℕ, ◌≤◌, ◌<◌}
 use mathlib.Core.Bool.{true}
 use mathlib.Core.List.{List, [], ◌∷◌}
-use mathlib.Core.Path.{◌≡◌, refl, ap, ◌∙◌}
+use mathlib.Core.Path.{◌≡◌, refl, sym, ap, ◌∙◌}
 use native.Mathlib.Omega.{arith}
 use lib.Dec.{lit<}
 use lib.ListN.{length}
@@ -41,8 +41,11 @@ use Rattle.reply.specs.Reply.{
 -- ---- what is written
 
 -- Nothing was laid into d.
-pub nothing_laid : (d : List ℕ) → laid 0 [] d ≡ d
-nothing_laid d = laid_over [] d (omega arith) ∙ over_nil d
+pub laid_none : (d : List ℕ) → laid 0 [] d ≡ d
+laid_none d = laid_over [] d (omega arith) ∙ over_nil d
+
+pub nothing_laid : (d : List ℕ) → (0 ≡ laid_length 0 [] d) × (d ≡ laid 0 [] d)
+nothing_laid d = (sym (laid_over_length [] d (omega arith)), sym (laid_none d))
 
 -- ---- lengths
 

@@ -66,7 +66,7 @@ fn answer_to(readings: Readings, command: Command, digits: u32) -> Answer
 }
 
 // The reply to an accepted command with these six digits, and its length: nothing and 0 where it has no room.
-#[tactic(auto, using(crate::proofs::Replies::nothing_laid), unfolding(crate::specs::Reply::reply_of))]
+#[tactic(auto, using(crate::proofs::Replies::laid_none), unfolding(crate::specs::Reply::reply_of))]
 pub fn write_reply(
     buf: &mut [u8],
     readings: Readings,

@@ -31,11 +31,11 @@ unfolding read_on
 read_failed [] = refl
 read_failed (c ∷ cs) = read_failed cs
 
-module _ (n i : ℕ) (cs : List ℕ) where
-  pub read_end : i ≡ length cs → read_on (Some n) (drop i cs) ≡ Some n
-  unfolding read_on
-  read_end e = let h : length cs ≤ i = omega arith in rw (drop_of_length-le cs h)
+pub read_end : (s : Option ℕ) (i : ℕ) (cs : List ℕ) → length cs ≤ i → read_on s (drop i cs) ≡ s
+unfolding read_on
+read_end s i cs h = rw (drop_of_length-le cs h)
 
+module _ (n i : ℕ) (cs : List ℕ) where
   pub read_next : (s : Option ℕ) → i < length cs → s ≡ join_of (Some n) (get_or cs i 0)
       → read_on (Some n) (drop i cs) ≡ read_on s (drop (i + 1) cs)
   unfolding read_on

@@ -7,7 +7,7 @@ use lib.ListN.{length}
 use Rattle.block.specs.Block.{put}
 use Rattle.journal.specs.Entries.{ranges, fit_all, spell_all}
 use Rattle.journal.specs.Inner.{taken}
-use Rattle.journal.proofs.AnswerLaws.{accepted, taken_number, appended_not, appended_at}
+use Rattle.journal.proofs.AnswerLaws.{entry_accepted, taken_number, appended_not, appended_at}
 use Rattle.journal.proofs.Examples.{write_examples}
 use Rattle.journal.proofs.RoundTripLaws.{round_trip}
 use Rattle.journal.proofs.append.Goals as goal
@@ -29,7 +29,7 @@ write_all-requires c =
     let a = c.args in
     let numbers = c.numbers_of-numbers.ensures in
     let number = taken_number a.buf.now a.at a.entry (sym (c.in-Ok.ensures ∙ ap (taken (length a.buf.now) a.at) numbers)) in
-    let w = accepted a.buf.now a.at a.entry number in
+    let w = entry_accepted a.buf.now a.at a.entry number in
     (omega (arith, w.1, ap (λ (ns : List ℕ). length (spell_all ns)) numbers), ap (fit_all ranges) numbers ∙ w.0)
 
 pub returns-in-Ok : goal.returns-in-Ok

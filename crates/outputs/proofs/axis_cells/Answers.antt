@@ -12,7 +12,7 @@ pub sum-still-requires-clause-fits : goal.sum-still-requires-clause-fits
 unfolding rest_of
 sum-still-requires-clause-fits c =
     let minus : ℕ → Bool = λ k. get_or c.args.minus k false in
-    let h : sum c.each_axis-rests.result < 4294967296 = rests_small c.args.switch c.args.polarity minus c.each_axis-rests.ensures in
+    let h : sum c.each_axis-rests.result < 4294967296 = (rests_small c.args.switch c.args.polarity minus c.each_axis-rests.ensures).all in
     search rules
 
 pub returns-clause-still_value : goal.returns-clause-still_value

@@ -1,5 +1,5 @@
 -- Digit by digit: a character that makes no number ends it with none. Assumes nothing.
-use Rattle.std.proofs.Common.{get_or, sym, ◌∙◌}
+use Rattle.std.proofs.Common.{Some, get_or, sym, ◌∙◌}
 use native.Mathlib.Omega.{arith}
 use borrow.Author.Tests.{eqb-true, eqb-false}
 use Rattle.session.proofs.AskedLaws.{count_none, count_first, read_end, read_next, read_none, join_most}
@@ -24,4 +24,4 @@ loop-c-preserved c = (
 )
 
 pub returns : goal.returns
-returns c = sym (c.loop-c.invariant.1 ∙ read_end c.loop-c.n c.loop-c.c-index c.args.cs.now (omega arith))
+returns c = sym (c.loop-c.invariant.1 ∙ read_end (Some c.loop-c.n) c.loop-c.c-index c.args.cs.now (omega arith))
