@@ -17,7 +17,8 @@ use Rattle.station.specs.declared.Refusal.TheVariants.{Unknown, Lacked, OutOfRan
 use Rattle.station.specs.declared.points.Distance.{Distance}
 use Rattle.station.specs.Names.{is_listed}
 use Rattle.station.specs.Forms.{Form, other, speed, move, stop, is_ours, name_of, form_of}
-use Rattle.station.specs.Station.{values_of, is_other, is_far, is_out, number_of, values_in, places, Converted, convert_of, answer}
+use Rattle.station.specs.declared.Converted.{Converted}
+use Rattle.station.specs.Station.{values_of, is_other, is_far, is_out, number_of, values_in, places, convert_of, answer}
 use Rattle.station.specs.Held.{held, held_form, requests, moved_values, held_move}
 use Rattle.station.proofs.SpeedLaws.{answer_in, answer_held, Kept, speed_answer}
 

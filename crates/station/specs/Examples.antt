@@ -8,7 +8,8 @@ use Rattle.line.specs.declared.command.Reading.TheVariants.{Status}
 use Rattle.machine.specs.Calls.{chars}
 use Rattle.host.specs.declared.Request.{Request}
 use Rattle.station.specs.Names.{names}
-use Rattle.station.specs.Station.{number_of, values_in, Converted, convert_of}
+use Rattle.station.specs.declared.Converted.{Converted}
+use Rattle.station.specs.Station.{number_of, values_in, convert_of}
 
 -- ---- How the rows below are written
 

@@ -6,6 +6,7 @@ use Rattle.line.specs.declared.command.Command.TheVariants as C
 use Rattle.line.specs.declared.command.Reading.TheVariants as R
 use Rattle.host.specs.Master.{master_of}
 use Rattle.host.specs.declared.Request.{Request}
+use Rattle.station.specs.declared.Converted.{Converted}
 use Rattle.station.specs.declared.Refusal.{Refusal}
 use Rattle.station.specs.declared.Refusal.TheVariants.{Unknown, Lacked, OutOfRange}
 use Rattle.station.specs.declared.Requests.{Requests}
@@ -86,13 +87,6 @@ unused = asks (C.Read R.Status)
 
 abbrev pub places : List Request → List Request
 places rs = rs ++ replicate (6 - length rs) unused
-
--- What comes of a command: a number that turns it away, or 0; how many command values there are; they come first of the
--- six, in order.
-pub record Converted : Type 0 where
-  pub number : ℕ
-  pub count : ℕ
-  pub requests : List Request
 
 unfoldable pub convert_of : List ℕ → Converted
 convert_of l = record { number = number_of l; count = length (values_in l); requests = places (values_in l) }

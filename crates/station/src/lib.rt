@@ -52,6 +52,15 @@ pub struct Requests {
     pub requests: [Request; 6],
 }
 
+// What comes of a command: a number that turns it away, or 0; how many command values there are; they come first of the
+// six, in order. A program that prints every place prints those of a refusal too, so that a number stands beside them.
+#[derive(Drop)]
+pub struct Converted {
+    pub number: u8,
+    pub count: usize,
+    pub requests: [Request; 6],
+}
+
 // What an unused place holds: a reading of the status, which alters nothing where it is sent by mistake.
 pub const UNUSED: Request = Request {
     silent: false,
@@ -84,4 +93,26 @@ pub fn convert(command: &[u8]) -> Result<Requests, Refusal>
         return Err(Refusal::Unknown);
     };
     values::values_of(form)
+}
+
+// All that an answer of `convert` says, which is `convert_of` of the command: command values have the number 0; a
+// refusal has its number, no command value, and six unused places.
+pub fn whole(converted: Result<Requests, Refusal>) -> Converted
+    ensures { result ≡ answer converted }
+{
+    match converted {
+        Ok(values) => {
+            let requests = values.requests;
+            Converted {
+                number: 0,
+                count: values.count,
+                requests,
+            }
+        }
+        Err(refusal) => Converted {
+            number: u8::from(refusal),
+            count: 0,
+            requests: [UNUSED; 6],
+        },
+    }
 }

@@ -5,7 +5,8 @@ use mathlib.Core.List.{List, [], ◌∷◌}
 use mathlib.Core.Path.{◌≡◌, ap, ◌∙◌}
 use lib.ListN.{length, length-append}
 use lib.Seq.{take-append_seam}
-use Rattle.station.specs.Station.{Converted, number_of, values_in, convert_of}
+use Rattle.station.specs.declared.Converted.{Converted}
+use Rattle.station.specs.Station.{number_of, values_in, convert_of}
 use Rattle.station.proofs.WritableLaws.{writable}
 use Rattle.text.specs.Text.{bytes_of, holding, writes}
 use Rattle.text.specs.declared.Text.{Text}

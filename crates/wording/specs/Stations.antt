@@ -3,7 +3,8 @@
 use Rattle.std.specs.Prelude.{ℕ, Bool, false, cond, List, [], ◌∷◌, ◌++◌, eqb, length, get_or, take}
 use Rattle.line.specs.Ranges.{is_within}
 use Rattle.host.specs.declared.Request.{Request}
-use Rattle.station.specs.Station.{Converted, number_of, values_in}
+use Rattle.station.specs.declared.Converted.{Converted}
+use Rattle.station.specs.Station.{number_of, values_in}
 use Rattle.sentences.specs.Sentences.{turned_text}
 use Rattle.phrases.specs.Meanings.{word}
 use Rattle.phrases.specs.Phrases.{line_text}
