@@ -106,21 +106,22 @@ fn digit_count(line: &[u8]) -> u32
     line.len().saturating_sub(2).min(6) as u32
 }
 
-// Checks 8 to 10, and the command of the row.
+// Checks 8 to 10, and the command of the row. The row is taken apart where it is told: handed on whole, it kept the
+// compiler from seeing through a line that it knows, as a trial's start, and a tick of a trial took twice as long.
 fn judge_row(row: Option<Row>, count: u32, number: u32) -> Result<Accepted, Refusal>
     ensures { result ≡ judge_row row count number }
 {
-    let Some(row) = row else {
+    let Some(Row { least, command }) = row else {
         return Err(Refusal::Code);
     };
-    if !command::within(count, row.least as u32, 6) {
+    if !command::within(count, least as u32, 6) {
         return Err(Refusal::Count);
     }
-    if !command::fits(row.command) {
+    if !command::fits(command) {
         return Err(Refusal::Range);
     }
     Ok(Accepted {
-        command: row.command,
+        command,
         digits: number,
     })
 }

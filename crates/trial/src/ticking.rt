@@ -45,6 +45,7 @@ fn tick(was: Ticked, buf: &mut [u8], word: u32, n: u32) -> Ticked
 
 // So many ticks, or as many as it takes to the end: those behind it alter nothing that is shown (`Rest`). They are lent
 // a buffer of their own, without which each would be turned away by 2 (3/14).
+// One test at the head of the loop: by `for` with a `break` a tick took a sixth more instructions.
 pub(crate) fn run(c: Controller, word: u32, count: u32) -> Ticked
     requires { Reachable c }
     ensures { Made c (λ m. result ≡ ran_of m word (last_of m word count)) }
@@ -54,11 +55,10 @@ pub(crate) fn run(c: Controller, word: u32, count: u32) -> Ticked
         controller: c,
         end: 0,
     };
-    for n in 0..count {
-        ran = tick(ran, &mut buf, word, n + 1);
-        if ran.end != 0 {
-            break;
-        }
+    let mut n = 0;
+    while n < count && ran.end == 0 {
+        n += 1;
+        ran = tick(ran, &mut buf, word, n);
     }
     ran
 }

@@ -11,7 +11,7 @@ use Rattle.trial.proofs.RunLaws.{last_is, told_next}
 use Rattle.trial.proofs.ticking.run.Goals as goal
 
 pub loop-n-init : goal.loop-n-init
-loop-n-init c = (c.requires, refl, none_ran c.args.c c.args.word, refl)
+loop-n-init c = (c.requires, refl, none_ran c.args.c c.args.word, omega arith, λ f. absurd (f refl))
 
 pub tick-ran-requires-clause-reachable : goal.tick-ran-requires-clause-reachable
 tick-ran-requires-clause-reachable c =
@@ -20,11 +20,17 @@ tick-ran-requires-clause-reachable c =
 
 pub loop-n-preserved : goal.loop-n-preserved
 loop-n-preserved c =
-    let l = c.loop-n in (
+    let l = c.loop-n in
+    let q = c.requires in
+    let m = state q.switch q.history in
+    let next = next_ran c.args.c c.args.word l.n l.ran c.tick-ran.result l.invariant.2 c.tick-ran.ensures in
+    let none = sym (ap (λ (x : Ticked). x.end) (l.invariant.2 q.switch q.history q.made)) ∙ c.if-ran-eq0.true in
+    let r = ap (λ (x : Ticked). x.end) (next q.switch q.history q.made) in (
       l.invariant.0,
       c.tick-ran.auto.buf ∙ l.invariant.1,
-      next_ran c.args.c c.args.word l.n l.ran c.tick-ran.result l.invariant.2 c.tick-ran.ensures,
-      omega (arith, c.if-ran-ne0.false),
+      next,
+      omega (arith, c.loop-n-test.true),
+      λ f. r ∙ told_next m c.args.word l.n none (λ z. f (r ∙ z)),
     )
 
 pub returns-after-loop-n : goal.returns-after-loop-n
@@ -32,18 +38,17 @@ returns-after-loop-n c =
     let l = c.loop-n in
     λ s h e.
     let r = l.invariant.2 s h e in
-    let none = sym (ap (λ (x : Ticked). x.end) r) ∙ l.invariant.3 in
+    let end = ap (λ (x : Ticked). x.end) r in
     r ∙ ap (ran_of (state s h) c.args.word)
-    (last_is (state s h) c.args.word c.args.count l.n l.auto.n-end
-    (λ z. omega (arith, c.loop-n-test.false, l.auto.n-end)) (λ f. absurd (f none)))
+    (last_is (state s h) c.args.word c.args.count l.n l.invariant.3
+    (λ z. omega (arith, c.loop-n-test.false, l.invariant.3)) (λ f. sym end ∙ l.invariant.4 (λ z. f (sym end ∙ z))))
 
-pub returns-then-ran-ne0 : goal.returns-then-ran-ne0
-returns-then-ran-ne0 c =
+pub returns-else-ran-eq0 : goal.returns-else-ran-eq0
+returns-else-ran-eq0 c =
     let l = c.loop-n in
     λ s h e.
-    let none = sym (ap (λ (x : Ticked). x.end) (l.invariant.2 s h e)) ∙ l.invariant.3 in
-    let r = next_ran c.args.c c.args.word l.n l.ran c.tick-ran.result l.invariant.2 c.tick-ran.ensures s h e in
-    let told = λ (q : end_of (state s h) c.args.word (l.n + 1) ≡ 0). c.if-ran-ne0.true (ap (λ (x : Ticked). x.end) r ∙ q) in
+    let r = l.invariant.2 s h e in
+    let end = ap (λ (x : Ticked). x.end) r in
     r ∙ ap (ran_of (state s h) c.args.word)
-    (last_is (state s h) c.args.word c.args.count (l.n + 1) (omega (arith, c.loop-n-test.true)) (λ q. absurd (told q))
-    (told_next (state s h) c.args.word l.n none))
+    (last_is (state s h) c.args.word c.args.count l.n l.invariant.3 (λ z. absurd (c.if-ran-eq0.false (end ∙ z)))
+    (λ f. sym end ∙ l.invariant.4 (λ z. f (sym end ∙ z))))
