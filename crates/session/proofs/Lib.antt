@@ -1,6 +1,7 @@
 mod AskedLaws
 mod BlockLaws
 mod SumLaws
+mod DecimalLaws
 mod TextLaws
 mod KeptLaws
 mod PrintLaws
