@@ -2,7 +2,7 @@
 -- Assumes nothing.
 use Rattle.std.specs.Char.{to_ascii_lowercase, eq_ignore_ascii_case}
 use Rattle.std.specs.Cmp.Lexicographic.{pointwise}
-use Rattle.std.specs.List.{count_by, onto_first, prefix_len, slice_split, zip}
+use Rattle.std.specs.List.{list_all, count_by, onto_first, prefix_len, slice_split, zip}
 use Rattle.std.proofs.lemmas.Bool.Decides.{nat_tests}
 use Rattle.std.proofs.lemmas.List.Recursion.{is_count_by}
 use Prim.Native.Nat.{ℕ, zero, suc, ◌+◌, ◌<◌}
@@ -10,7 +10,7 @@ use native.Mathlib.Omega.{arith}
 use mathlib.Core.Bool.{Bool, true, false, cond, ◌&&◌}
 use mathlib.Core.List.{List, [], ◌∷◌}
 use mathlib.Core.Path.{◌≡◌, refl, sym, ap, ◌∙◌}
-use lib.Dec.{eqb}
+use lib.Dec.{eqb, eqb-zero-suc, eqb-suc-zero, eqb-suc-suc}
 use lib.ListN.{length, get_or}
 use Rattle.receiver.specs.Receiver.{before}
 use Rattle.text.specs.Parts.{behind, part, marks, same, small, common}
@@ -84,6 +84,24 @@ equal_same (x ∷ xs) (y ∷ ys) = when (eqb x y) (equal_same xs ys)
     when : (t : Bool) → pointwise eqb xs ys ≡ same xs ys → (t && pointwise eqb xs ys) ≡ cond t (same xs ys) false
     when true e = e
     when false e = refl
+
+-- What pairs say of two rows, beside their lengths: the edit `compares_with_the_first_byte_alone` cites it.
+pub zipped_same : (a b : List ℕ) → (eqb (length a) (length b) && list_all (λ (p : ℕ × ℕ). eqb p.0 p.1) (zip a b)) ≡ same a b
+unfolding same
+zipped_same [] [] = refl
+zipped_same [] (y ∷ ys) = ap (λ (t : Bool). t && true) (eqb-zero-suc (length ys))
+zipped_same (x ∷ xs) [] = ap (λ (t : Bool). t && true) (eqb-suc-zero (length xs))
+zipped_same (x ∷ xs) (y ∷ ys) =
+    ap (λ (t : Bool). t && (eqb x y && pairs)) (eqb-suc-suc (length xs) (length ys))
+    ∙ when (eqb x y) (eqb (length xs) (length ys)) pairs (same xs ys) (zipped_same xs ys)
+  where
+    pairs : Bool
+    pairs = list_all (λ (p : ℕ × ℕ). eqb p.0 p.1) (zip xs ys)
+
+    when : (t u r s : Bool) → (u && r) ≡ s → (u && (t && r)) ≡ cond t s false
+    when true u r s e = e
+    when false true r s e = refl
+    when false false r s e = refl
 
 -- Letters that are alike are those of which `eq_ignore_ascii_case` says so.
 lower : (c : ℕ) → to_ascii_lowercase c ≡ small c

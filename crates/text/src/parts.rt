@@ -19,7 +19,6 @@ pub fn parts(bytes: &[u8], mark: u8) -> usize
 
 // Whether two rows of bytes are the same.
 // Callers with a byte string ask this: `==` would want two slices.
-#[tactic(auto, using(crate::proofs::PartLaws::equal_same))]
 pub fn same(a: &[u8], b: &[u8]) -> bool
     ensures { result ≡ same a.now b.now }
 {
