@@ -107,7 +107,7 @@ fn digit_count(line: &[u8]) -> u32
 }
 
 // Checks 8 to 10, and the command of the row. The row is taken apart where it is told: handed on whole, it kept the
-// compiler from seeing through a line that it knows, as a trial's start, and a tick of a trial took twice as long.
+// compiler from seeing through a line that it knows, as a trial's start, whose tick took 1.6 times the instructions.
 fn judge_row(row: Option<Row>, count: u32, number: u32) -> Result<Accepted, Refusal>
     ensures { result ≡ judge_row row count number }
 {
