@@ -34,10 +34,11 @@ fn brake(u: u32, a: u32) -> u32
 fn approach(u: u32, target: u32, a: u32) -> u32
     ensures { result ≡ towards u target a }
 {
+    // The step is cut: a saturating sum that is cut took up to four instructions more.
     if u <= target {
-        u.saturating_add(a).min(target)
+        u + (target - u).min(a)
     } else {
-        u.saturating_sub(a).max(target)
+        u - (u - target).min(a)
     }
 }
 

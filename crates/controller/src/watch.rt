@@ -44,7 +44,7 @@ pub(crate) fn takes(settings: Settings, was: Hot, word: u32) -> Hot
     next.inputs = word;
     next.pause.block = was.pause.block.saturating_sub(1);
     next.watch = watch;
-    // No branch: by `||` a trial's tick chose between the two, for five instructions more.
+    // No branch: by `||` a trial's tick chose between the two, for three to five instructions more.
     next.flags.emergency = was.flags.emergency | active;
     if is_full(watch, settings.watch / 2) {
         next.wires.general = 0;
